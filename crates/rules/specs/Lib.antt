@@ -1,0 +1,16 @@
+pub mod Basics
+pub mod Form
+pub mod Refusals
+pub mod Lines
+pub mod Netlist
+pub mod Sequence
+pub mod Values
+pub mod Device
+pub mod Weight
+pub mod Order
+pub mod Cells
+pub mod Mapping
+pub mod Book
+pub mod Programs
+pub mod Calls
+pub mod Texts
