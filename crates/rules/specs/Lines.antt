@@ -16,9 +16,10 @@ use Rattle.rules.specs.Refusals.{Res, good, refuse}
 unfoldable pub isDigit : ℕ → Bool
 isDigit c = within 48 57 c || within 65 70 c
 
+-- what a digit stands for; any other character counts 0
 unfoldable pub valueOf : ℕ → ℕ
 unfolding pick
-valueOf c = pick (leb c 57) (c - 48) (c - 55)
+valueOf c = pick (within 48 57 c) (c - 48) (pick (within 65 70 c) (c - 55) 0)
 
 -- how many digits a text begins with
 unfoldable pub digits : List ℕ → ℕ
