@@ -1,0 +1,42 @@
+-- The netlist that flat arrays stand for, and what a reading says.
+-- Assumes nothing.
+use Prim.Native.Nat.{ℕ, zero, suc, _+_, _*_}
+use mathlib.Core.List.{List, [], _∷_, _++_}
+use lib.Dec.{eqb}
+use lib.ListN.{getD, take, drop}
+use Rattle.rules.specs.Basics.{pick}
+use Rattle.rules.specs.Refusals.{Res, good, refused}
+use Rattle.rules.specs.Netlist as rules
+use Rattle.rules.specs.Netlist.{Part}
+use Rattle.netlist.specs.declared.Netlist.{Netlist}
+use Rattle.netlist.specs.declared.Reading.{Reading}
+
+-- n numbers from a place on
+unfoldable pub from : List ℕ → ℕ → ℕ → List ℕ
+from l at zero = []
+from l at (suc n) = getD l at 0 ∷ from l (at + 1) n
+
+-- the operands of gate g; the first n gates
+unfoldable pub gateIn : List ℕ → List ℕ → ℕ → List ℕ
+unfolding from
+gateIn ops counts g = from ops (4 * g) (getD counts g 0)
+
+unfoldable pub gatesIn : List ℕ → List ℕ → ℕ → List (List ℕ)
+unfolding gateIn
+gatesIn ops counts zero = []
+gatesIn ops counts (suc n) = gatesIn ops counts n ++ (gateIn ops counts n ∷ [])
+
+-- the netlist that the arrays stand for
+unfoldable pub netlistIn : Netlist → rules.Netlist
+unfolding gatesIn from
+netlistIn n = record { inputs = n .inputs; gates = gatesIn (n .ops) (n .counts) (n .gates); outputs = from (n .outs) 0 (n .outputs) }
+
+-- what a reading says: the netlist, or the refusal
+unfoldable pub readingOf : Reading → Res rules.Netlist
+unfolding pick netlistIn
+readingOf r = pick (eqb (r .refusal .number) 0) (good (netlistIn (r .netlist))) (refused (r .refusal))
+
+-- the netlist with the text after its last output line, or the refusal
+unfoldable pub partOf : List ℕ → Reading → Res (Part rules.Netlist)
+unfolding pick netlistIn
+partOf text r = pick (eqb (r .refusal .number) 0) (good (record { got = netlistIn (r .netlist); tail = drop (r .tail) text })) (refused (r .refusal))
