@@ -13,6 +13,7 @@ mod sequence;
 mod values;
 mod weights;
 
+pub mod generate;
 pub mod refusal;
 
 pub use cells::mapped;
