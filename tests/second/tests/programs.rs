@@ -48,8 +48,9 @@ fn rowcheck_prints() {
 fn cases_are_many_and_hold_every_number() {
     let cases = printed(env!("CARGO_BIN_EXE_cases"), b"");
     assert_eq!(cases, printed(env!("CARGO_BIN_EXE_cases"), b""));
-    assert!(cases.matches("= refl\n").count() >= 36);
+    assert!(cases.matches("refl").count() >= 36);
     for number in 1..=17 {
-        assert!(cases.contains(&format!("refused {number}\n")), "{number}");
+        let said = [format!("refuse {number})"), format!("keeps {number} ")];
+        assert!(said.iter().any(|said| cases.contains(said)), "{number}");
     }
 }

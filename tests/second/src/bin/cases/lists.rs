@@ -82,6 +82,7 @@ fn maps(small: &[Vec<u8>]) {
         });
         map_case(kind, 6, &text, 200);
     }
+    kind.print();
 }
 
 fn reads() {
@@ -102,6 +103,7 @@ fn reads() {
     read_case(kind, b"0141000101\n");
     read_case(kind, b"0102000301\n020000\n020000\n0200030002\n030004\n");
     read_case(kind, b"0102000102\n0200000001\n030002\n030002\n");
+    kind.print();
 }
 
 fn evaluations(small: &[Vec<u8>]) {
@@ -116,6 +118,7 @@ fn evaluations(small: &[Vec<u8>]) {
         let inputs = second::read(text).map_or(1, |netlist| netlist.inputs);
         evaluate_case(kind, text, &r.bits(inputs), 8);
     }
+    kind.print();
 }
 
 fn checks(small: &[Vec<u8>]) {
@@ -140,6 +143,7 @@ fn checks(small: &[Vec<u8>]) {
             check_case(kind, text, &other);
         }
     }
+    kind.print();
 }
 
 fn simulations(small: &[Vec<u8>]) {
@@ -166,6 +170,7 @@ fn simulations(small: &[Vec<u8>]) {
         let row = second::read_sequence(&sequence).map_or(2, |sequence| sequence.row);
         simulate_case(kind, &sequence, &r.bits(row), 5);
     }
+    kind.print();
 }
 
 fn programs(small: &[Vec<u8>]) {
@@ -173,11 +178,22 @@ fn programs(small: &[Vec<u8>]) {
     for job in [
         "0F04\n", "0F03\n", "0F00\n", "0F\n", "0F04", "0f04\n", "0F04\n\n",
     ] {
-        program_case(kind, second::rowmap, format!("{job}{XOR}").as_bytes());
+        program_case(
+            kind,
+            "rowmapOutput",
+            second::rowmap,
+            format!("{job}{XOR}").as_bytes(),
+        );
     }
     for netlist in ["", UNREAD, TWINS] {
-        program_case(kind, second::rowmap, format!("0F07\n{netlist}").as_bytes());
+        program_case(
+            kind,
+            "rowmapOutput",
+            second::rowmap,
+            format!("0F07\n{netlist}").as_bytes(),
+        );
     }
+    kind.print();
     let kind = &mut { ROWCHECK };
     let sequence = mapped(XOR.as_bytes(), 0);
     let wrong = damaged_to(&sequence, 16, |text| second::check(XOR.as_bytes(), text));
@@ -187,16 +203,33 @@ fn programs(small: &[Vec<u8>]) {
         (XOR, b"zz"),
         (XOR, &wrong),
     ] {
-        program_case(kind, second::rowcheck, &[netlist.as_bytes(), tail].concat());
+        program_case(
+            kind,
+            "rowcheckOutput",
+            second::rowcheck,
+            &[netlist.as_bytes(), tail].concat(),
+        );
     }
-    program_case(kind, second::rowcheck, format!("{UNREAD}zz").as_bytes());
-    program_case(kind, second::rowcheck, format!("{TWINS}FF\n").as_bytes());
+    program_case(
+        kind,
+        "rowcheckOutput",
+        second::rowcheck,
+        format!("{UNREAD}zz").as_bytes(),
+    );
+    program_case(
+        kind,
+        "rowcheckOutput",
+        second::rowcheck,
+        format!("{TWINS}FF\n").as_bytes(),
+    );
     let text = &small[0];
     program_case(
         kind,
+        "rowcheckOutput",
         second::rowcheck,
         &[&text[..], &mapped(text, 1)].concat(),
     );
+    kind.print();
 }
 
 fn tails_and_frames() {
@@ -208,8 +241,10 @@ fn tails_and_frames() {
     ] {
         tail_case(kind, text.as_bytes());
     }
+    kind.print();
     let kind = &mut { FRAME };
     for at in [0, 3, 8, 12, 13] {
         frame_case(kind, b"FF\n0102\n\nAB\n", at);
     }
+    kind.print();
 }
