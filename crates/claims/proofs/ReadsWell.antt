@@ -1,0 +1,120 @@
+-- What a text that reads well is known to say.
+use Prim.Native.Nat.{ℕ, zero, suc, _+_, _<_}
+use native.Mathlib.Omega.{arith}
+use mathlib.Core.Path.{_≡_, refl, sym, ap, _∙_}
+use mathlib.Core.Bool.{Bool, true, false, _&&_, not}
+use mathlib.Core.List.{List, [], _∷_, _++_, append-assoc, append-nil}
+use mathlib.Core.Option.{Option, none, some}
+use lib.Dec.{eqb, ltb, leb}
+use borrow.Author.Tests.{ltb-true}
+use lib.ListN.{getD, length}
+use Rattle.rules.specs.Basics.{within, all, ascending, repeats}
+use Rattle.rules.specs.Form.{Form, Width, one, two}
+use Rattle.rules.specs.Refusals.{Res, good, refuse, _>>=_, _>>_, require, orRefuse}
+use Rattle.rules.specs.Lines.{Line, line, nothing, numbers, fields}
+use Rattle.rules.specs.Netlist.{Netlist, Head, Part, due, headOf, gateOf, outputOf, lines, netlistLines, allUsed, twins, wellFormed, netlistOf}
+use Rattle.rules.specs.Sequence.{Instruction, Sequence, SequenceHead, sequenceHeadOf, instructionOf, placeOf, sequenceOf}
+use Rattle.rules.proofs.Laws.{no-way, bind-good, then-good, require-good, and-true}
+use Rattle.claims.proofs.Table.{Each, Below}
+
+-- ---- what was good in the end was good at each step; the steps' results are names to what comes after
+
+by-bind : {A B P : Type 0} (r : Res A) (k : A → Res B) (y : B) → (r >>= k) ≡ good y → ((x : A) → r ≡ good x → k x ≡ good y → P) → P
+by-bind r k y e f = let (x, p, q) = bind-good r k y e in f x p q
+
+by-then : {A B P : Type 0} (r : Res A) (k : Res B) (y : B) → (r >> k) ≡ good y → (k ≡ good y → P) → P
+by-then r k y e f = f (then-good r k y e .2)
+
+by-require : {B P : Type 0} (t : Bool) (n : ℕ) (k : Res B) (y : B) → (require t n >> k) ≡ good y → (t ≡ true → k ≡ good y → P) → P
+by-require t n k y e f = let (p, q) = require-good t n k y e in f p q
+
+same : {A : Type 0} (x y : A) → good x ≡ good y → x ≡ y
+same x y e = cc
+
+-- ---- line after line
+
+-- what a rule says of each line it reads, it says of all that were read behind those so far
+pub lines-each : {A : Type 0} (F : Form) (rule : ℕ → List ℕ → Res A) (P : ℕ → A → Type 0)
+    → ((own : ℕ) (bytes : List ℕ) (a : A) → rule own bytes ≡ good a → P own a)
+    → (k own : ℕ) (sofar : List A) (text : List ℕ) (p : Part (List A)) → lines F rule k own sofar text ≡ good p
+    → (new : List A) × (p .got ≡ sofar ++ new) × (length new ≡ k) × Each P own new
+unfolding lines Each
+lines-each F rule P law zero own sofar text p e = let q : sofar ≡ p .got = cc in ([], sym q ∙ sym (append-nil sofar), refl, tt)
+lines-each F rule P law (suc k) own sofar text p e =
+    let (l, e₁, e₂) = bind-good (line F text) _ p e in
+    let (a, e₃, e₄) = bind-good (rule own (l .bytes)) _ p e₂ in
+    let (new, got, len, each) = lines-each F rule P law k (suc own) (sofar ++ (a ∷ [])) (l .rest) p e₄ in
+    (a ∷ new, got ∙ append-assoc sofar (a ∷ []) new, ap suc len, (law own (l .bytes) a e₃, each))
+
+-- ---- netlists
+
+gate-below : (F : Form) (own : ℕ) (bytes os : List ℕ) → gateOf F own bytes ≡ good os → Below own os
+unfolding gateOf
+gate-below F own bytes os e =
+    by-bind (due (F .gateKind) bytes) _ os e λ l _ e₁.
+    by-bind (orRefuse 2 (numbers two l)) _ os e₁ λ ns _ e₂.
+    by-require (within 1 4 (length ns)) 2 _ os e₂ λ _ e₃.
+    by-require (all (λ o. ltb o own) ns) 4 _ os e₃ λ low e₄.
+    by-require (ascending ns) 5 _ os e₄ λ _ e₅.
+    rw (same ns os e₅) at low
+
+wellFormed-good : (M N : Netlist) → wellFormed M ≡ good N → M ≡ N
+unfolding wellFormed
+wellFormed-good M N e =
+    by-require (allUsed M) 6 _ N e λ _ e₁.
+    by-require (not (twins (M .gates))) 7 _ N e₁ λ _ e₂.
+    by-require (not (repeats (M .outputs))) 7 _ N e₂ λ _ e₃.
+    same M N e₃
+
+-- every gate reads only signals lower than its own
+pub netlist-ordered : (F : Form) (text : List ℕ) (N : Netlist) → netlistOf F text ≡ good N → Each Below (N .inputs) (N .gates)
+unfolding netlistOf netlistLines
+netlist-ordered F text N e =
+    by-bind (netlistLines F text) _ N e λ p e₁ e₂.
+    by-then (nothing F (p .tail)) _ N e₂ λ e₃.
+    by-bind (line F text) _ p e₁ λ l _ e₄.
+    by-bind (headOf F (l .bytes)) _ p e₄ λ h _ e₅.
+    by-bind (lines F (gateOf F) (h .gates) (h .inputs) [] (l .rest)) _ p e₅ λ gs e₆ e₇.
+    by-bind (lines F (λ _. outputOf F h) (h .outputs) 0 [] (gs .tail)) _ p e₇ λ os _ e₈.
+    let (new, got, _, each) = lines-each F (gateOf F) Below (gate-below F) (h .gates) (h .inputs) [] (l .rest) gs e₆ in
+    rw (← wellFormed-good (p .got) N e₃, ← same _ p e₈, got) each
+
+-- ---- sequences
+
+place-below : (F : Form) (row : ℕ) (bytes : List ℕ) (c : ℕ) → placeOf F row bytes ≡ good c → c < row
+unfolding placeOf
+place-below F row bytes c e =
+    by-bind (due (F .placeKind) bytes) _ c e λ l _ e₁.
+    by-bind (orRefuse 2 (fields (F .cellWidth ∷ []) l)) _ c e₁ λ ns _ e₂.
+    by-require (ltb (getD ns 0 0) row) 12 _ c e₂ λ low e₃.
+    rw (← same (getD ns 0 0) c e₃) (ltb-true (getD ns 0 0) row low)
+
+head-fewer : (F : Form) (bytes : List ℕ) (h : SequenceHead) → sequenceHeadOf F bytes ≡ good h → h .inputs < h .row
+unfolding sequenceHeadOf
+head-fewer F bytes h e =
+    by-bind (due (F .sequenceHead) bytes) _ h e λ l _ e₁.
+    by-bind (orRefuse 2 (fields (F .cellWidth ∷ F .cellWidth ∷ F .cellWidth ∷ two ∷ []) l)) _ h e₁ λ ns _ e₂.
+    by-require (within 2 (F .rowMost) (getD ns 0 0 + 1)) 3 _ h e₂ λ _ e₃.
+    by-require (within 1 (F .inputsMost) (getD ns 1 0)) 3 _ h e₃ λ _ e₄.
+    by-require (within 1 (F .outputsMost) (getD ns 2 0)) 3 _ h e₄ λ _ e₅.
+    by-require (within 1 (F .instructionsMost) (getD ns 3 0)) 3 _ h e₅ λ _ e₆.
+    by-require (ltb (getD ns 1 0) (getD ns 0 0 + 1)) 3 _ h e₆ λ fewer e₇.
+    rw (← same _ h e₇) (ltb-true (getD ns 1 0) (getD ns 0 0 + 1) fewer)
+
+pub record ReadSequence (S : Sequence) : Type 0 where
+  pub fewer : S .inputs < S .row
+  pub count : length (S .places) ≡ S .outputs
+  pub inRow : Each (λ _ c. c < S .row) 0 (S .places)
+
+pub sequence-read : (F : Form) (text : List ℕ) (S : Sequence) → sequenceOf F text ≡ good S → ReadSequence S
+unfolding sequenceOf
+sequence-read F text S e =
+    by-bind (line F text) _ S e λ l _ e₁.
+    by-bind (sequenceHeadOf F (l .bytes)) _ S e₁ λ h e₂ e₃.
+    by-bind (lines F (λ _. instructionOf F (h .row)) (h .instructions) 0 [] (l .rest)) _ S e₃ λ is _ e₄.
+    by-bind (lines F (λ _. placeOf F (h .row)) (h .outputs) 0 [] (is .tail)) _ S e₄ λ ps e₅ e₆.
+    by-then (nothing F (ps .tail)) _ S e₆ λ e₇.
+    let (new, got, len, each) =
+    lines-each F (λ _. placeOf F (h .row)) (λ _ c. c < h .row) (λ _. place-below F (h .row)) (h .outputs) 0 [] (is .tail) ps e₅ in
+    rw (← same _ S e₇)
+    (record { fewer = head-fewer F (l .bytes) h e₂; count = rw got len; inRow = rw got each })
