@@ -1,22 +1,21 @@
 -- What the checker passes, the row does, over texts and calls.
-use Prim.Native.Nat.{ℕ, zero, suc, _<_, _≤_, min}
+use Prim.Native.Nat.{ℕ, zero, suc, _<_, _≤_}
 use native.Mathlib.Omega.{arith}
-use mathlib.Core.Path.{_≡_, refl, sym, ap, _∙_}
-use mathlib.Core.Bool.{Bool, true, false}
+use mathlib.Core.Path.{_≡_, sym, ap, _∙_}
+use mathlib.Core.Bool.{true}
 use mathlib.Core.List.{List, [], _∷_, _++_}
 use lib.ListN.{getD, length, take, drop}
-use Rattle.rules.specs.Basics.{any}
 use Rattle.rules.specs.Form.{form01}
-use Rattle.rules.specs.Refusals.{Res, good, _>>=_}
+use Rattle.rules.specs.Refusals.{good}
 use Rattle.rules.specs.Netlist.{Netlist, netlistOf}
 use Rattle.rules.specs.Sequence.{Instruction, Sequence, sequenceOf}
 use Rattle.rules.specs.Values.{values, outputValues, areBits}
-use Rattle.rules.specs.Device.{run, cycles, touches}
-use Rattle.rules.specs.Book.{checked, checkedText}
+use Rattle.rules.specs.Device.{run, cycles}
+use Rattle.rules.specs.Book.{checkedText}
 use Rattle.rules.specs.Calls.{Outcome, checkOutcome, simulateOutcome, evaluateOutcome}
 use Rattle.rules.proofs.Laws.{bind-good}
-use Rattle.claims.specs.Defended.{RunsRight, Honoured, Defended}
-use Rattle.claims.proofs.Table.{Each, Below}
+use Rattle.claims.specs.Defended.{RunsRight, Defended}
+use Rattle.claims.proofs.Table.{Each}
 use Rattle.claims.proofs.Stays.{run-ends, run-length, run-stays}
 use Rattle.claims.proofs.Sound.{Checked, checked-good, inputs-stay, places-hold}
 use Rattle.claims.proofs.ReadsWell.{ReadSequence, netlist-ordered, sequence-read}
@@ -37,9 +36,9 @@ module _ (netlist sequence : List ℕ) (N : Netlist) (S : Sequence) (n : ℕ) (r
   places-count : length (S .places) ≡ length (N .outputs)
   places-count = sequence-read form01 sequence S readS .count ∙ c .same-outputs
 
-  runs-right : (row : List ℕ) (budget : ℕ) → areBits (S .row) row ≡ true → n ≤ budget
+  runs-right : (row : List ℕ) (budget : ℕ) → areBits (S .row) row ≡ true → length (S .instructions) ≤ budget
       → RunsRight N S row (simulateOutcome sequence row budget) (evaluateOutcome netlist (take (N .inputs) row))
-  runs-right row budget bits enough =
+  runs-right row budget bits ends =
       rw (simulates sequence row budget S readS bits) (record {
         answers = ap good (cycles-end budget is ends);
         keeps-length = run-length budget is row;
@@ -63,9 +62,6 @@ module _ (netlist sequence : List ℕ) (N : Netlist) (S : Sequence) (n : ℕ) (r
 
       room : N .inputs ≤ S .row
       room = omega (arith, r .fewer, c .same-inputs)
-
-      ends : length is ≤ budget
-      ends = omega (arith, c .counted)
 
       ev : (out : List ℕ) → length (N .outputs) ≤ length out
           → evaluateOutcome netlist ins out ≡ record { answer = good (length (N .outputs)); lent = outputValues N ins ++ drop (length (N .outputs)) out }
@@ -96,5 +92,5 @@ defended netlist sequence n e =
       reads-sequence = readS;
       counts = c .counted;
       places = places-count netlist sequence N S n readN readS c;
-      runs = runs-right netlist sequence N S n readN readS c;
+      runs = λ row budget bits enough. runs-right netlist sequence N S n readN readS c row budget bits (omega (arith, c .counted));
     }

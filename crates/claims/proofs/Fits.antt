@@ -10,7 +10,7 @@ use lib.Dec.{eqb}
 use lib.ListN.{getD, length, set, length-set}
 use lib.Seq.{getD-set-same, getD-set-other, set-out}
 use Rattle.rules.specs.Basics.{pick, any, sort, setAll}
-use Rattle.rules.specs.Refusals.{Res, good, refused, refuse, _>>=_, orRefuse}
+use Rattle.rules.specs.Refusals.{good, refuse, _>>=_}
 use Rattle.rules.specs.Netlist.{Netlist}
 use Rattle.rules.specs.Sequence.{Instruction, Set, Nor}
 use Rattle.rules.specs.Values.{nor}

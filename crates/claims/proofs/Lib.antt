@@ -5,3 +5,5 @@ pub mod Sound
 pub mod ReadsWell
 pub mod Outcomes
 pub mod Defended
+pub mod Tight
+pub mod ShutOut

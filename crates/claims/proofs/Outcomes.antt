@@ -1,21 +1,21 @@
 -- The calls' outcomes where nothing is refused.
 use Prim.Native.Nat.{ℕ, zero, suc, _<_, _≤_}
 use native.Mathlib.Omega.{arith}
-use mathlib.Core.Path.{_≡_, refl, sym, ap, _∙_}
-use mathlib.Core.Bool.{Bool, true, false, _&&_}
+use mathlib.Core.Path.{_≡_, refl, ap, _∙_}
+use mathlib.Core.Bool.{Bool, true}
 use mathlib.Core.List.{List, [], _∷_, _++_, map}
-use lib.Dec.{eqb, ltb, leb}
+use lib.Dec.{eqb, leb}
 use borrow.Author.Tests.{eqb-true, eq-eqb, le-ltb}
 use lib.ListN.{getD, length, take, drop, length-map, List·getD-append}
 use lib.Seq.{length-take-le}
-use Rattle.rules.specs.Basics.{pick, all}
+use Rattle.rules.specs.Basics.{all}
 use Rattle.rules.specs.Form.{form01}
-use Rattle.rules.specs.Refusals.{Res, good, refuse, _>>=_, _>>_, require}
+use Rattle.rules.specs.Refusals.{Res, good, _>>=_, _>>_, require}
 use Rattle.rules.specs.Netlist.{Netlist, netlistOf}
 use Rattle.rules.specs.Sequence.{Sequence, sequenceOf}
 use Rattle.rules.specs.Values.{values, outputValues, areBits}
 use Rattle.rules.specs.Device.{run, cycles}
-use Rattle.rules.specs.Calls.{Outcome, delivered, evaluated, evaluateOutcome, simulated, ranFor, simulateOutcome}
+use Rattle.rules.specs.Calls.{delivered, evaluateOutcome, ranFor, simulateOutcome}
 use Rattle.rules.proofs.Laws.{and-true}
 
 -- ---- what is good goes on

@@ -1,20 +1,18 @@
 -- What a text that reads well is known to say.
 use Prim.Native.Nat.{ℕ, zero, suc, _+_, _<_}
-use native.Mathlib.Omega.{arith}
 use mathlib.Core.Path.{_≡_, refl, sym, ap, _∙_}
-use mathlib.Core.Bool.{Bool, true, false, _&&_, not}
+use mathlib.Core.Bool.{Bool, true, not}
 use mathlib.Core.List.{List, [], _∷_, _++_, append-assoc, append-nil}
-use mathlib.Core.Option.{Option, none, some}
-use lib.Dec.{eqb, ltb, leb}
+use lib.Dec.{ltb}
 use borrow.Author.Tests.{ltb-true}
 use lib.ListN.{getD, length}
 use Rattle.rules.specs.Basics.{within, all, ascending, repeats}
-use Rattle.rules.specs.Form.{Form, Width, one, two}
-use Rattle.rules.specs.Refusals.{Res, good, refuse, _>>=_, _>>_, require, orRefuse}
-use Rattle.rules.specs.Lines.{Line, line, nothing, numbers, fields}
-use Rattle.rules.specs.Netlist.{Netlist, Head, Part, due, headOf, gateOf, outputOf, lines, netlistLines, allUsed, twins, wellFormed, netlistOf}
-use Rattle.rules.specs.Sequence.{Instruction, Sequence, SequenceHead, sequenceHeadOf, instructionOf, placeOf, sequenceOf}
-use Rattle.rules.proofs.Laws.{no-way, bind-good, then-good, require-good, and-true}
+use Rattle.rules.specs.Form.{Form, two}
+use Rattle.rules.specs.Refusals.{Res, good, _>>=_, _>>_, require, orRefuse}
+use Rattle.rules.specs.Lines.{line, nothing, numbers, fields}
+use Rattle.rules.specs.Netlist.{Netlist, Part, due, headOf, gateOf, outputOf, lines, netlistLines, allUsed, twins, wellFormed, netlistOf}
+use Rattle.rules.specs.Sequence.{Sequence, SequenceHead, sequenceHeadOf, instructionOf, placeOf, sequenceOf}
+use Rattle.rules.proofs.Laws.{bind-good, then-good, require-good}
 use Rattle.claims.proofs.Table.{Each, Below}
 
 -- ---- what was good in the end was good at each step; the steps' results are names to what comes after

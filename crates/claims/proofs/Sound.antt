@@ -3,19 +3,19 @@ use Prim.Native.Nat.{ℕ, zero, suc, _+_, _-_, _<_, _≤_}
 use native.Mathlib.Omega.{arith}
 use native.Mathlib.Decide.{decLt}
 use mathlib.Core.Path.{_≡_, refl, sym, ap, _∙_}
-use mathlib.Core.Bool.{Bool, true, false}
+use mathlib.Core.Bool.{true}
 use mathlib.Core.List.{List, [], _∷_, _++_, map}
-use mathlib.Core.Option.{Option, none, some}
+use mathlib.Core.Option.{some}
 use lib.Dec.{eqb}
 use borrow.Author.Tests.{eqb-true, lt-ltb}
 use lib.ListN.{getD, length, replicate, take, length-append, length-replicate, length-map, length-take}
 use lib.Seq.{getD-take, length-take-le}
-use Rattle.rules.specs.Basics.{any, upto}
-use Rattle.rules.specs.Refusals.{Res, good, refuse, _>>=_, _>>_, require}
+use Rattle.rules.specs.Basics.{upto}
+use Rattle.rules.specs.Refusals.{good}
 use Rattle.rules.specs.Netlist.{Netlist}
-use Rattle.rules.specs.Sequence.{Instruction, Sequence}
-use Rattle.rules.specs.Values.{nor, table, values, outputValues}
-use Rattle.rules.specs.Device.{run, touches}
+use Rattle.rules.specs.Sequence.{Sequence}
+use Rattle.rules.specs.Values.{nor, table, values}
+use Rattle.rules.specs.Device.{run}
 use Rattle.rules.specs.Book.{Cell, unknown, ready, holds, firstBook, gateWith, steps, isHolding, placed, checked}
 use Rattle.rules.proofs.Laws.{no-way, bind-good, require-good, and-true, gateWith-spec}
 use Rattle.claims.proofs.Table.{Each, Below, table-keeps, values-spec}

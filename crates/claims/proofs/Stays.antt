@@ -1,7 +1,7 @@
 -- What a run leaves alone: the row's length, cells that no instruction names, and, once passed, the input cells.
-use Prim.Native.Nat.{ℕ, zero, suc, _<_, _≤_}
+use Prim.Native.Nat.{ℕ, zero, suc, _≤_}
 use native.Mathlib.Omega.{arith}
-use mathlib.Core.Path.{_≡_, refl, sym, _∙_}
+use mathlib.Core.Path.{_≡_, refl, _∙_}
 use mathlib.Core.Bool.{Bool, true, false}
 use mathlib.Core.List.{List, [], _∷_}
 use lib.Dec.{eqb}
@@ -9,7 +9,7 @@ use borrow.Author.Tests.{eqb-false, ne-eqb}
 use lib.ListN.{getD, length, set, length-set}
 use lib.Seq.{getD-set-other}
 use Rattle.rules.specs.Basics.{pick, any, mem, setAll}
-use Rattle.rules.specs.Refusals.{Res, good, refuse, _>>=_}
+use Rattle.rules.specs.Refusals.{good, refuse, _>>=_}
 use Rattle.rules.specs.Netlist.{Netlist}
 use Rattle.rules.specs.Sequence.{Instruction, Set, Nor}
 use Rattle.rules.specs.Device.{execute, run, touches}

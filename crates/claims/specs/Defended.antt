@@ -2,17 +2,18 @@
 -- Assumes nothing.
 use Prim.Native.Nat.{ℕ, _<_, _≤_}
 use mathlib.Core.Path.{_≡_}
-use mathlib.Core.Bool.{Bool, true, false}
+use mathlib.Core.Bool.{true, false}
 use mathlib.Core.List.{List}
 use lib.ListN.{getD, length, take}
 use Rattle.rules.specs.Basics.{any}
 use Rattle.rules.specs.Form.{form01}
-use Rattle.rules.specs.Refusals.{Res, good}
+use Rattle.rules.specs.Refusals.{good}
 use Rattle.rules.specs.Netlist.{Netlist, netlistOf}
 use Rattle.rules.specs.Sequence.{Sequence, sequenceOf}
 use Rattle.rules.specs.Values.{areBits}
 use Rattle.rules.specs.Device.{touches}
 use Rattle.rules.specs.Calls.{Outcome, checkOutcome, simulateOutcome, evaluateOutcome}
+use Rattle.claims.specs.Shapes.{EvaluateCall, CheckCall, SimulateCall}
 
 -- One run: `after` is what simulate leaves of `row`, `evaluated out` what evaluate leaves in a lent buffer `out`.
 pub record RunsRight (N : Netlist) (S : Sequence) (row : List ℕ) (after : Outcome) (evaluated : List ℕ → Outcome) : Type 0 where
@@ -30,23 +31,22 @@ pub record RunsRight (N : Netlist) (S : Sequence) (row : List ℕ) (after : Outc
   pub outputs : (out : List ℕ) → length (N .outputs) ≤ length out → (k : ℕ) → k < length (N .outputs)
       → (getD (S .places) k 0 < length row) × (getD (after .lent) (getD (S .places) k 0) 0 ≡ getD (evaluated out .lent) k 0)
 
-module _ (check : List ℕ → List ℕ → Res ℕ) (simulate : List ℕ → List ℕ → ℕ → Outcome) (evaluate : List ℕ → List ℕ → List ℕ → Outcome) where
-  -- Both texts read, n is the instruction count, and every run that may end does what the netlist says.
-  pub record Honoured (netlist sequence : List ℕ) (n : ℕ) : Type 0 where
-    pub N : Netlist
-    pub S : Sequence
-    pub reads-netlist : netlistOf form01 netlist ≡ good N
-    pub reads-sequence : sequenceOf form01 sequence ≡ good S
-    pub counts : n ≡ length (S .instructions)
-    -- one place an output
-    pub places : length (S .places) ≡ length (N .outputs)
-    -- for every row of the stated length of zeros and ones and every budget that lets the sequence end
-    pub runs : (row : List ℕ) (budget : ℕ) → areBits (S .row) row ≡ true → n ≤ budget
-        → RunsRight N S row (simulate sequence row budget) (evaluate netlist (take (N .inputs) row))
+-- Both texts read, n is the instruction count, and every run that may end does what the netlist says.
+pub record Honoured (simulate : SimulateCall) (evaluate : EvaluateCall) (netlist sequence : List ℕ) (n : ℕ) : Type 0 where
+  pub N : Netlist
+  pub S : Sequence
+  pub reads-netlist : netlistOf form01 netlist ≡ good N
+  pub reads-sequence : sequenceOf form01 sequence ≡ good S
+  pub counts : n ≡ length (S .instructions)
+  -- There is one place an output.
+  pub places : length (S .places) ≡ length (N .outputs)
+  -- For every row of the stated length of zeros and ones and every budget that lets the sequence end, the run is right.
+  pub runs : (row : List ℕ) (budget : ℕ) → areBits (S .row) row ≡ true → n ≤ budget
+      → RunsRight N S row (simulate sequence row budget) (evaluate netlist (take (N .inputs) row))
 
-  -- Whatever texts a check passes are honoured.
-  abbrev pub DefendedBy : Type 0
-  DefendedBy = (netlist sequence : List ℕ) (n : ℕ) → check netlist sequence ≡ good n → Honoured netlist sequence n
+-- Whatever texts a check passes are honoured.
+abbrev pub DefendedBy : CheckCall → SimulateCall → EvaluateCall → Type 0
+DefendedBy check simulate evaluate = (netlist sequence : List ℕ) (n : ℕ) → check netlist sequence ≡ good n → Honoured simulate evaluate netlist sequence n
 
 -- What the checker of document 01 passes is honoured by its simulator and its evaluator.
 abbrev pub Defended : Type 0
