@@ -1,9 +1,9 @@
 -- What the checker passes, the row does, over texts and calls.
-use Prim.Native.Nat.{ℕ, zero, suc, _<_, _≤_}
+use Prim.Native.Nat.{ℕ, _<_, _≤_}
 use native.Mathlib.Omega.{arith}
 use mathlib.Core.Path.{_≡_, sym, ap, _∙_}
 use mathlib.Core.Bool.{true}
-use mathlib.Core.List.{List, [], _∷_, _++_}
+use mathlib.Core.List.{List, _++_}
 use lib.ListN.{getD, length, take, drop}
 use Rattle.rules.specs.Form.{form01}
 use Rattle.rules.specs.Refusals.{good}
@@ -15,17 +15,11 @@ use Rattle.rules.specs.Book.{checkedText}
 use Rattle.rules.specs.Calls.{Outcome, checkOutcome, simulateOutcome, evaluateOutcome}
 use Rattle.rules.proofs.Laws.{bind-good}
 use Rattle.claims.specs.Defended.{RunsRight, Defended}
-use Rattle.claims.proofs.Table.{Each}
+use Rattle.claims.proofs.EachLine.{each-at}
 use Rattle.claims.proofs.Stays.{run-ends, run-length, run-stays}
 use Rattle.claims.proofs.Sound.{Checked, checked-good, inputs-stay, places-hold}
 use Rattle.claims.proofs.ReadsWell.{ReadSequence, netlist-ordered, sequence-read}
 use Rattle.claims.proofs.Outcomes.{simulates, evaluates, output-at, bits-length, bits-take}
-
-each-at : (P : ℕ → Type 0) (n : ℕ) (l : List ℕ) → Each (λ _ c. P c) n l → (k : ℕ) → k < length l → P (getD l k 0)
-unfolding Each
-each-at P n [] e k h = absurd (omega arith)
-each-at P n (a ∷ l) e zero h = e .0
-each-at P n (a ∷ l) e (suc k) h = each-at P (suc n) l (e .1) k (omega arith)
 
 cycles-end : (budget : ℕ) (is : List Instruction) → length is ≤ budget → cycles budget is ≡ length is
 unfolding cycles

@@ -1,3 +1,4 @@
+pub mod EachLine
 pub mod Table
 pub mod Fits
 pub mod Stays

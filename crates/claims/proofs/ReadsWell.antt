@@ -1,48 +1,19 @@
 -- What a text that reads well is known to say.
-use Prim.Native.Nat.{ℕ, zero, suc, _+_, _<_}
-use mathlib.Core.Path.{_≡_, refl, sym, ap, _∙_}
-use mathlib.Core.Bool.{Bool, true, not}
-use mathlib.Core.List.{List, [], _∷_, _++_, append-assoc, append-nil}
+use Prim.Native.Nat.{ℕ, _+_, _<_}
+use mathlib.Core.Path.{_≡_}
+use mathlib.Core.Bool.{not}
+use mathlib.Core.List.{List, [], _∷_}
 use lib.Dec.{ltb}
 use borrow.Author.Tests.{ltb-true}
 use lib.ListN.{getD, length}
 use Rattle.rules.specs.Basics.{within, all, ascending, repeats}
 use Rattle.rules.specs.Form.{Form, two}
-use Rattle.rules.specs.Refusals.{Res, good, _>>=_, _>>_, require, orRefuse}
+use Rattle.rules.specs.Refusals.{good, orRefuse}
 use Rattle.rules.specs.Lines.{line, nothing, numbers, fields}
-use Rattle.rules.specs.Netlist.{Netlist, Part, due, headOf, gateOf, outputOf, lines, netlistLines, allUsed, twins, wellFormed, netlistOf}
+use Rattle.rules.specs.Netlist.{Netlist, due, headOf, gateOf, outputOf, lines, netlistLines, allUsed, twins, wellFormed, netlistOf}
 use Rattle.rules.specs.Sequence.{Sequence, SequenceHead, sequenceHeadOf, instructionOf, placeOf, sequenceOf}
-use Rattle.rules.proofs.Laws.{bind-good, then-good, require-good}
-use Rattle.claims.proofs.Table.{Each, Below}
-
--- ---- what was good in the end was good at each step; the steps' results are names to what comes after
-
-by-bind : {A B P : Type 0} (r : Res A) (k : A → Res B) (y : B) → (r >>= k) ≡ good y → ((x : A) → r ≡ good x → k x ≡ good y → P) → P
-by-bind r k y e f = let (x, p, q) = bind-good r k y e in f x p q
-
-by-then : {A B P : Type 0} (r : Res A) (k : Res B) (y : B) → (r >> k) ≡ good y → (k ≡ good y → P) → P
-by-then r k y e f = f (then-good r k y e .2)
-
-by-require : {B P : Type 0} (t : Bool) (n : ℕ) (k : Res B) (y : B) → (require t n >> k) ≡ good y → (t ≡ true → k ≡ good y → P) → P
-by-require t n k y e f = let (p, q) = require-good t n k y e in f p q
-
-same : {A : Type 0} (x y : A) → good x ≡ good y → x ≡ y
-same x y e = cc
-
--- ---- line after line
-
--- what a rule says of each line it reads, it says of all that were read behind those so far
-pub lines-each : {A : Type 0} (F : Form) (rule : ℕ → List ℕ → Res A) (P : ℕ → A → Type 0)
-    → ((own : ℕ) (bytes : List ℕ) (a : A) → rule own bytes ≡ good a → P own a)
-    → (k own : ℕ) (sofar : List A) (text : List ℕ) (p : Part (List A)) → lines F rule k own sofar text ≡ good p
-    → (new : List A) × (p .got ≡ sofar ++ new) × (length new ≡ k) × Each P own new
-unfolding lines Each
-lines-each F rule P law zero own sofar text p e = let q : sofar ≡ p .got = cc in ([], sym q ∙ sym (append-nil sofar), refl, tt)
-lines-each F rule P law (suc k) own sofar text p e =
-    let (l, e₁, e₂) = bind-good (line F text) _ p e in
-    let (a, e₃, e₄) = bind-good (rule own (l .bytes)) _ p e₂ in
-    let (new, got, len, each) = lines-each F rule P law k (suc own) (sofar ++ (a ∷ [])) (l .rest) p e₄ in
-    (a ∷ new, got ∙ append-assoc sofar (a ∷ []) new, ap suc len, (law own (l .bytes) a e₃, each))
+use Rattle.claims.proofs.EachLine.{Each, lines-each, by-bind, by-then, by-require, same}
+use Rattle.claims.proofs.Table.{Below}
 
 -- ---- netlists
 

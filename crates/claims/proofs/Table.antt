@@ -12,11 +12,7 @@ use lib.Seq.{getD-append-seam}
 use Rattle.rules.specs.Basics.{pick, all, insert, sort}
 use Rattle.rules.specs.Values.{nor, table}
 use Rattle.rules.proofs.Laws.{by-pick, and-true}
-
--- a property of each entry and its own number, counted from n
-unfoldable pub Each : {A : Type 0} → (ℕ → A → Type 0) → ℕ → List A → Type 0
-Each P n [] = Unit {0}
-Each P n (a ∷ l) = P n a × Each P (suc n) l
+use Rattle.claims.proofs.EachLine.{Each}
 
 -- every operand is below n
 abbrev pub Below : ℕ → List ℕ → Type 0

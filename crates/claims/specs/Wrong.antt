@@ -4,6 +4,7 @@ use Prim.Native.Nat.{ℕ, zero, suc}
 use mathlib.Core.List.{List, _++_}
 use lib.ListN.{drop, replicate}
 use Rattle.rules.specs.declared.Refusal.{Refusal}
+use Rattle.rules.specs.Form.{form01}
 use Rattle.rules.specs.Refusals.{Res, good, refused, refuse}
 use Rattle.rules.specs.Calls.{mapOutcome, evaluateOutcome, checkOutcome, simulateOutcome}
 use Rattle.claims.specs.Shapes.{MapCall, EvaluateCall, CheckCall, SimulateCall}
@@ -46,10 +47,10 @@ givesZero text inputs out = let answer = evaluateOutcome text inputs out .answer
 unfoldable pub leavesRow : SimulateCall
 leavesRow text row budget = record { answer = simulateOutcome text row budget .answer; lent = row }
 
--- one that does the whole run in cycle one and idles after; no sequence has more than 1,024 instructions
+-- one that does the whole run in cycle one and idles after; no sequence has more instructions than the most
 unfoldable pub atOnce : SimulateCall
 atOnce text row zero = simulateOutcome text row 0
-atOnce text row (suc b) = record { answer = simulateOutcome text row (suc b) .answer; lent = simulateOutcome text row 1024 .lent }
+atOnce text row (suc b) = record { answer = simulateOutcome text row (suc b) .answer; lent = simulateOutcome text row (form01 .instructionsMost) .lent }
 
 -- one that reports the budget as cycles run
 unfoldable pub reported : ℕ → Res ℕ → Res ℕ
