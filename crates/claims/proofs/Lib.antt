@@ -1,0 +1,10 @@
+pub mod EachLine
+pub mod Table
+pub mod Fits
+pub mod Stays
+pub mod Sound
+pub mod ReadsWell
+pub mod Outcomes
+pub mod Defended
+pub mod Tight
+pub mod ShutOut

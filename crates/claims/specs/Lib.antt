@@ -1,0 +1,6 @@
+pub mod Shapes
+pub mod Defended
+pub mod Tight
+pub mod Demands
+pub mod Wrong
+pub mod ShutOut
