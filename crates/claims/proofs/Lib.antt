@@ -5,3 +5,12 @@ pub mod Reading
 pub mod Whole
 pub mod Once
 pub mod OrderIsTrue
+pub mod Slots
+pub mod Served
+pub mod Executing
+pub mod Keeping
+pub mod Matching
+pub mod Agreeing
+pub mod Fine
+pub mod Opened
+pub mod Passing

@@ -5,7 +5,7 @@ use native.Mathlib.Omega.{arith}
 use native.Mathlib.Decide.{ℕ-discrete}
 use mathlib.Core.Path.{_≡_, refl, sym, ap}
 use mathlib.Core.Bool.{Bool, true, false, _||_}
-use mathlib.Core.List.{List, [], _∷_}
+use mathlib.Core.List.{List, [], _∷_, _++_}
 use lib.Dec.{ltb, leb}
 use borrow.Author.Tests.{ltb-true, lt-ltb, leb-true, le-leb}
 use lib.ListN.{getD, length}
@@ -140,3 +140,26 @@ asc-few a b [] e h = omega arith
 asc-few a b (c ∷ l) e h =
     let z = h c (cons-self c l) in
     omega (arith, asc-few (suc a) b l (asc-rest c l e) (λ x m. let k = asc-low c l e x m in let y = h x (cons-more x c l m) in (omega arith, y .1)))
+
+-- ---- each
+
+-- a rule holds of each entry, with its own number, counted from k
+unfoldable pub Each : {A : Type 0} → (ℕ → A → Type 0) → ℕ → List A → Type 0
+Each Q k [] = Unit {0}
+Each Q k (a ∷ l) = Q k a × Each Q (suc k) l
+
+pub each-at : {A : Type 0} (Q : ℕ → A → Type 0) (k : ℕ) (l : List A) (d : A) → Each Q k l → (j : ℕ) → j < length l → Q (k + j) (getD l j d)
+unfolding Each
+each-at Q k [] d e j h = absurd (omega arith)
+each-at Q k (a ∷ l) d e zero h = let z : k + 0 ≡ k = omega arith in rw z (e .0)
+each-at Q k (a ∷ l) d e (suc j) h = let z : k + suc j ≡ suc k + j = omega arith in rw z (each-at Q (suc k) l d (e .1) j (omega arith))
+
+pub each-mem : (P : ℕ → Type 0) (k : ℕ) (l : List ℕ) → Each (λ _ o. P o) k l → (o : ℕ) → mem o l ≡ true → P o
+unfolding Each
+each-mem P k [] e o m = absurd (mem-nil o m)
+each-mem P k (a ∷ l) e o m = cons-cases (P o) o a l m (λ q. rw q (e .0)) (λ q. each-mem P (suc k) l (e .1) o q)
+
+pub each-snoc : {A : Type 0} (Q : A → Type 0) (k : ℕ) (l : List A) (a : A) → Each (λ _. Q) k l → Q a → Each (λ _. Q) k (l ++ (a ∷ []))
+unfolding Each
+each-snoc Q k [] a e q = (q, tt)
+each-snoc Q k (b ∷ l) a e q = (e .0, each-snoc Q (suc k) l a (e .1) q)

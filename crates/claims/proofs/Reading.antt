@@ -1,7 +1,6 @@
 -- What the netlist reader's tests give: a well-formed netlist within the limits.
 -- Assumes nothing.
 use Prim.Native.Nat.{ℕ, zero, suc, _+_, _<_, _≤_}
-use native.Mathlib.Omega.{arith}
 use mathlib.Core.Path.{_≡_, refl, sym, ap, _∙_}
 use mathlib.Core.Bool.{true, false, _&&_, not}
 use mathlib.Core.List.{List, [], _∷_, _++_, append-assoc, append-nil}
@@ -13,20 +12,9 @@ use Rattle.rules.specs.Form.{Form, two}
 use Rattle.rules.specs.Refusals.{Res, good, orRefuse}
 use Rattle.rules.specs.Lines.{line, nothing, numbers, fields}
 use Rattle.rules.specs.Netlist.{Netlist, due, Head, headOf, gateOf, outputOf, Part, lines, netlistLines, allUsed, twins, wellFormed, netlistOf}
-use Rattle.rules.proofs.Laws.{bind-good, then-good, and-true, cons-cases, mem-nil}
+use Rattle.rules.proofs.Laws.{bind-good, then-good, and-true}
 use Rattle.claims.proofs.Answers.{good-same, from-bind, from-require}
-use Rattle.claims.proofs.Lists.{within-true, all-mem}
-
--- a rule holds of each entry, with its own number, counted from k
-unfoldable pub Each : {A : Type 0} → (ℕ → A → Type 0) → ℕ → List A → Type 0
-Each Q k [] = Unit {0}
-Each Q k (a ∷ l) = Q k a × Each Q (suc k) l
-
-pub each-at : {A : Type 0} (Q : ℕ → A → Type 0) (k : ℕ) (l : List A) (d : A) → Each Q k l → (j : ℕ) → j < length l → Q (k + j) (getD l j d)
-unfolding Each
-each-at Q k [] d e j h = absurd (omega arith)
-each-at Q k (a ∷ l) d e zero h = let z : k + 0 ≡ k = omega arith in rw z (e .0)
-each-at Q k (a ∷ l) d e (suc j) h = let z : k + suc j ≡ suc k + j = omega arith in rw z (each-at Q (suc k) l d (e .1) j (omega arith))
+use Rattle.claims.proofs.Lists.{within-true, all-mem, Each, each-at, each-mem}
 
 -- what was read line after line
 pub lines-read : {A : Type 0} (F : Form) (rule : ℕ → List ℕ → Res A) (Q : ℕ → A → Type 0) → ((own : ℕ) (bytes : List ℕ) (a : A) → rule own bytes ≡ good a → Q own a)
@@ -98,11 +86,6 @@ module _ (F : Form) where
       from-require ((h .inputs ≤ o) × (o < h .inputs + h .gates)) (leb (h .inputs) (getD ns 0 0) && ltb (getD ns 0 0) (h .inputs + h .gates)) 4 _ o d λ p q.
       let (u, v) = and-true (leb (h .inputs) (getD ns 0 0)) (ltb (getD ns 0 0) (h .inputs + h .gates)) p in
       rw (← good-same _ o q) (leb-true (h .inputs) (getD ns 0 0) u, ltb-true (getD ns 0 0) (h .inputs + h .gates) v)
-
-  each-mem : (P : ℕ → Type 0) (k : ℕ) (l : List ℕ) → Each (λ _ o. P o) k l → (o : ℕ) → mem o l ≡ true → P o
-  unfolding Each
-  each-mem P k [] e o m = absurd (mem-nil o m)
-  each-mem P k (a ∷ l) e o m = cons-cases (P o) o a l m (λ q. rw q (e .0)) (λ q. each-mem P (suc k) l (e .1) o q)
 
   -- what the lines give, before twins are looked for
   lines-well : (text : List ℕ) (p : Part Netlist) → netlistLines F text ≡ good p → twins (p .got .gates) ≡ false → Well (p .got) × Sized F (p .got)

@@ -1,0 +1,70 @@
+-- What placing a gate and setting cells keep, executing gates keeps: for any rule of sets, and any order that runs operands first.
+-- Assumes nothing.
+use Prim.Native.Nat.{ℕ, _≤_}
+use mathlib.Core.Path.{_≡_, refl, sym, _∙_}
+use mathlib.Core.Bool.{Bool, true, false, _||_}
+use mathlib.Core.List.{List, [], _∷_, _++_, append-nil, append-assoc}
+use mathlib.Core.Option.{Option, none, some}
+use lib.Dec.{ltb}
+use borrow.Author.Tests.{ltb-false}
+use lib.ListN.{getD}
+use Rattle.rules.specs.Basics.{mem}
+use Rattle.rules.specs.Refusals.{good}
+use Rattle.rules.specs.Netlist.{Netlist, operandsOf}
+use Rattle.rules.specs.Cells.{Slot, blank, ready, isReady, lowest, State, place, setCells, inReady, afterSet, inLowest, executeGate, executeGates}
+use Rattle.rules.proofs.Laws.{no-way, bind-good, cons-more, cons-self}
+use Rattle.claims.proofs.Visits.{Runs}
+use Rattle.claims.proofs.Whole.{Gate}
+use Rattle.claims.proofs.Slots.{lowest-ready}
+use Rattle.claims.proofs.Served.{present}
+
+-- a gate whose turn it is: not executed yet, its operands present
+pub record Turn (N : Netlist) (done : List ℕ) (g : ℕ) : Type 0 where
+  pub gate : Gate N g
+  pub new : mem g done ≡ false
+  pub had : (o : ℕ) → mem o (operandsOf N g) ≡ true → present N done o ≡ true
+
+module _ (N : Netlist) (renew : List Slot → List ℕ) (P : State → Type 0)
+    (placing : (st : State) (g c : ℕ) → P st → Turn N (st .done) g → getD (st .slots) c blank ≡ ready → P (place N g c st))
+    (setting : (st : State) (c : ℕ) (cs : List ℕ) → P st → renew (st .slots) ≡ c ∷ cs → P (setCells N (c ∷ cs) st)) where
+  executed : (st st′ : State) (g : ℕ) → P st → Turn N (st .done) g → executeGate N renew g st ≡ good st′ → P st′ × (st′ .done ≡ st .done ++ (g ∷ []))
+  unfolding executeGate inLowest afterSet inReady setCells place
+  executed st st′ g I turn e = go (lowest isReady 0 (st .slots)) refl e
+    where
+      Goal : Type 0
+      Goal = P st′ × (st′ .done ≡ st .done ++ (g ∷ []))
+
+      in-cell : (s : State) → P s → s .done ≡ st .done → (c : ℕ) → lowest isReady 0 (s .slots) ≡ some c → place N g c s ≡ st′ → Goal
+      in-cell s J d c p z = rw (← z) (placing s g c J (rw d turn) (lowest-ready (s .slots) c p), rw d)
+
+      again : (s : State) → P s → s .done ≡ st .done → (o : Option ℕ) → lowest isReady 0 (s .slots) ≡ o → inReady N g s o ≡ good st′ → Goal
+      again s J d none p f = absurd (no-way (cc))
+      again s J d (some c) p f = in-cell s J d c p (cc)
+
+      renewed : (l : List ℕ) → renew (st .slots) ≡ l → afterSet N g st l ≡ good st′ → Goal
+      renewed [] p f = absurd (no-way (cc))
+      renewed (c ∷ cs) p f = again (setCells N (c ∷ cs) st) (setting st c cs I p) refl (lowest isReady 0 ((setCells N (c ∷ cs) st) .slots)) refl f
+
+      go : (o : Option ℕ) → lowest isReady 0 (st .slots) ≡ o → inLowest N renew g st o ≡ good st′ → Goal
+      go (some c) p f = in-cell st I refl c p (cc)
+      go none p f = renewed (renew (st .slots)) refl f
+
+  module _ (ops : ℕ → List ℕ) (operand : (g o : ℕ) → mem o (operandsOf N g) ≡ true → N .inputs ≤ o → mem o (ops g) ≡ true) where
+    here : (done : List ℕ) (g : ℕ) → ((o : ℕ) → mem o (ops g) ≡ true → mem o done ≡ true) → (o : ℕ) → mem o (operandsOf N g) ≡ true → present N done o ≡ true
+    unfolding present
+    here done g h o e = go (ltb o (N .inputs)) refl
+      where
+        go : (t : Bool) → ltb o (N .inputs) ≡ t → (ltb o (N .inputs) || mem o done) ≡ true
+        go true p = rw p
+        go false p = rw p (h o (operand g o e (ltb-false o (N .inputs) p)))
+
+    pub executed-all : (l : List ℕ) (st st′ : State) → P st → Runs ops (st .done) l → ((x : ℕ) → mem x l ≡ true → Gate N x)
+        → executeGates N renew l st ≡ good st′ → P st′ × (st′ .done ≡ st .done ++ l)
+    unfolding executeGates Runs
+    executed-all [] st st′ I r k e = let z : st ≡ st′ = cc in rw (← z) (I, sym (append-nil (st .done)))
+    executed-all (g ∷ l) st st′ I r k e =
+        let (s₁, p, q) = bind-good (executeGate N renew g st) (executeGates N renew l) st′ e in
+        let turn : Turn N (st .done) g = record { gate = k g (cons-self g l); new = r .1; had = here (st .done) g (r .0) } in
+        let (J, d) = executed st s₁ g I turn p in
+        let (K, z) = executed-all l s₁ st′ J (rw d (r .2)) (λ x f. k x (cons-more x g l f)) q in
+        (K, z ∙ rw (d, append-assoc))
