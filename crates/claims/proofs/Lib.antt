@@ -14,3 +14,4 @@ pub mod Agreeing
 pub mod Fine
 pub mod Opened
 pub mod Passing
+pub mod Counting

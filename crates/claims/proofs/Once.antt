@@ -9,9 +9,13 @@ use mathlib.Core.List.{List, [], _∷_, _++_, append-nil, append-assoc}
 use borrow.Author.Tests.{ne-eqb}
 use lib.ListN.{length}
 use Rattle.rules.specs.Basics.{mem, repeats}
+use Rattle.rules.specs.Netlist.{Netlist}
+use Rattle.rules.specs.Order.{visitOrder, order}
 use Rattle.rules.proofs.Laws.{no-way, or-none, mem-append, mem-one, cons-cases, cons-more, cons-self, mem-nil, snoc-more, snoc-self}
 use Rattle.claims.proofs.Lists.{absent}
 use Rattle.claims.proofs.Visits.{Runs}
+use Rattle.claims.proofs.Reading.{Well}
+use Rattle.claims.proofs.Whole.{order-runs, order-gates, order-all}
 
 runs-new : (ops : ℕ → List ℕ) (d l : List ℕ) (x : ℕ) → Runs ops d l → mem x d ≡ true → mem x l ≡ true → ⊥
 unfolding Runs
@@ -76,6 +80,10 @@ runs-tally ops n k d (g ∷ l) r h =
     let v = rw append-assoc at (runs-tally ops n k (d ++ (g ∷ [])) l (r .2) (λ x e. h x (cons-more x g l e))) in
     omega arith
 
-pub runs-length : (ops : ℕ → List ℕ) (n k : ℕ) (l : List ℕ) → Runs ops [] l → ((x : ℕ) → mem x l ≡ true → (n ≤ x) × (x < n + k))
+runs-length : (ops : ℕ → List ℕ) (n k : ℕ) (l : List ℕ) → Runs ops [] l → ((x : ℕ) → mem x l ≡ true → (n ≤ x) × (x < n + k))
     → ((x : ℕ) → (n ≤ x) × (x < n + k) → mem x l ≡ true) → length l ≡ k
 runs-length ops n k l r only all = omega (arith, runs-tally ops n k [] l r only, tally-none n k, tally-all n k l (λ x a b. all x (a, b)))
+
+-- the order has as many entries as there are gates
+pub order-length : (N : Netlist) → Well N → length (order N) ≡ length (N .gates)
+order-length N W = runs-length (visitOrder N) (N .inputs) (length (N .gates)) (order N) (order-runs N W) (order-gates N W) (order-all N W)

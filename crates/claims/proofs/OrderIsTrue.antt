@@ -1,6 +1,5 @@
 -- The order of every netlist that reads well is a true order.
 -- Assumes nothing.
-use mathlib.Core.Path.{_≡_}
 use mathlib.Core.List.{[], _∷_, _++_}
 use lib.ListN.{length}
 use Rattle.rules.specs.Basics.{mem}
@@ -12,10 +11,7 @@ use Rattle.claims.proofs.Lists.{same-test, upto-mem, upto-in}
 use Rattle.claims.proofs.Visits.{Runs, runs-before}
 use Rattle.claims.proofs.Reading.{Well, netlist-read}
 use Rattle.claims.proofs.Whole.{order-runs, order-gates, order-all, order-operand}
-use Rattle.claims.proofs.Once.{runs-once, runs-length}
-
-pub order-length : (N : Netlist) → Well N → length (order N) ≡ length (N .gates)
-order-length N W = runs-length (visitOrder N) (N .inputs) (length (N .gates)) (order N) (order-runs N W) (order-gates N W) (order-all N W)
+use Rattle.claims.proofs.Once.{runs-once, order-length}
 
 well-ordered : (N : Netlist) → Well N → TrueOrder N (order N)
 unfolding gateSignals

@@ -1,0 +1,96 @@
+-- Never more than twice as many instructions as gates: two for each gate at most, and the first gate finds a cell ready.
+-- Assumes nothing.
+use Prim.Native.Nat.{ℕ, suc, _+_, _*_, _≤_}
+use native.Mathlib.Omega.{arith}
+use mathlib.Core.Path.{_≡_}
+use mathlib.Core.List.{List, [], _∷_, _++_}
+use mathlib.Core.Option.{Option, none, some}
+use lib.ListN.{length, length-append}
+use Rattle.rules.specs.Refusals.{good}
+use Rattle.rules.specs.Netlist.{Netlist}
+use Rattle.rules.specs.Sequence.{Set, Sequence}
+use Rattle.rules.specs.Order.{order}
+use Rattle.rules.specs.Cells.{Slot, isReady, lowest, State, place, setCells, inReady, afterSet, inLowest, executeGate, executeGates, opening}
+use Rattle.rules.specs.Mapping.{sequenceFrom, mappedBy}
+use Rattle.rules.proofs.Laws.{no-way, bind-good}
+use Rattle.claims.proofs.Answers.{good-same, from-bind}
+use Rattle.claims.proofs.Reading.{Well}
+use Rattle.claims.proofs.Once.{order-length}
+use Rattle.claims.proofs.Opened.{ready-first}
+
+snoc-length : {A : Type 0} (l : List A) (x : A) → length (l ++ (x ∷ [])) ≡ suc (length l)
+snoc-length l x = omega (arith, length-append l (x ∷ []))
+
+module _ (N : Netlist) where
+  place-length : (g c : ℕ) (st : State) → length (place N g c st .code) ≡ suc (length (st .code))
+  unfolding place
+  place-length g c st = snoc-length (st .code) _
+
+  set-length : (cs : List ℕ) (st : State) → length (setCells N cs st .code) ≡ suc (length (st .code))
+  unfolding setCells
+  set-length cs st = snoc-length (st .code) (Set cs)
+
+  module _ (renew : List Slot → List ℕ) where
+    -- one instruction where a cell is ready
+    one-more : (g : ℕ) (st st′ : State) (c : ℕ) → lowest isReady 0 (st .slots) ≡ some c → executeGate N renew g st ≡ good st′
+        → length (st′ .code) ≡ suc (length (st .code))
+    unfolding executeGate inLowest
+    one-more g st st′ c p e = go (lowest isReady 0 (st .slots)) p e
+      where
+        go : (o : Option ℕ) → o ≡ some c → inLowest N renew g st o ≡ good st′ → length (st′ .code) ≡ suc (length (st .code))
+        go none q f = absurd (no-way (cc))
+        go (some x) q f = rw (← good-same (place N g x st) st′ f) (place-length g x st)
+
+    -- else two
+    one-or-two : (g : ℕ) (st st′ : State) → executeGate N renew g st ≡ good st′
+        → (suc (length (st .code)) ≤ length (st′ .code)) × (length (st′ .code) ≤ length (st .code) + 2)
+    unfolding executeGate inLowest afterSet inReady
+    one-or-two g st st′ e = go (lowest isReady 0 (st .slots)) e
+      where
+        Goal : Type 0
+        Goal = (suc (length (st .code)) ≤ length (st′ .code)) × (length (st′ .code) ≤ length (st .code) + 2)
+
+        again : (cs : List ℕ) (o : Option ℕ) → inReady N g (setCells N cs st) o ≡ good st′ → Goal
+        again cs none f = absurd (no-way (cc))
+        again cs (some x) f = rw (← good-same (place N g x (setCells N cs st)) st′ f) (omega (arith, place-length g x (setCells N cs st), set-length cs st))
+
+        renewed : (l : List ℕ) → afterSet N g st l ≡ good st′ → Goal
+        renewed [] f = absurd (no-way (cc))
+        renewed (c ∷ cs) f = again (c ∷ cs) (lowest isReady 0 (setCells N (c ∷ cs) st .slots)) f
+
+        go : (o : Option ℕ) → inLowest N renew g st o ≡ good st′ → Goal
+        go none f = renewed (renew (st .slots)) f
+        go (some x) f = rw (← good-same (place N g x st) st′ f) (omega (arith, place-length g x st))
+
+    all-gates : (l : List ℕ) (st st′ : State) → executeGates N renew l st ≡ good st′
+        → (length (st .code) + length l ≤ length (st′ .code)) × (length (st′ .code) ≤ length (st .code) + 2 * length l)
+    unfolding executeGates
+    all-gates [] st st′ e = rw (← good-same st st′ e) (omega arith)
+    all-gates (g ∷ l) st st′ e =
+        let (s₁, p, q) = bind-good (executeGate N renew g st) (executeGates N renew l) st′ e in
+        let u = one-or-two g st s₁ p in
+        let v = all-gates l s₁ st′ q in
+        omega arith
+
+    counted : (opened row : ℕ) → 1 ≤ opened → N .inputs + opened ≤ row → (l : List ℕ) → 1 ≤ length l → (st : State)
+        → executeGates N renew l (opening N opened row) ≡ good st → (1 ≤ length (st .code)) × (length (st .code) ≤ 2 * length l)
+    unfolding executeGates opening
+    counted opened row h room [] k st e = absurd (omega arith)
+    counted opened row h room (g ∷ l) k st e =
+        let (s₁, p, q) = bind-good (executeGate N renew g (opening N opened row)) (executeGates N renew l) st e in
+        let (c, f) = ready-first N row opened room h in
+        let u = one-more g (opening N opened row) s₁ c f p in
+        let v = all-gates l s₁ st q in
+        omega arith
+
+    -- the claim on netlists
+    pub counting : Well N → 1 ≤ length (N .gates) → (opened row : ℕ) → 1 ≤ opened → N .inputs + opened ≤ row → (S : Sequence)
+        → mappedBy N (order N) renew (opening N opened row) row ≡ good S
+        → (1 ≤ length (S .instructions)) × (length (S .instructions) ≤ 2 * length (N .gates))
+    unfolding mappedBy sequenceFrom
+    counting W some-gate opened row h room S e =
+        from-bind ((1 ≤ length (S .instructions)) × (length (S .instructions) ≤ 2 * length (N .gates)))
+        (executeGates N renew (order N) (opening N opened row)) _ S e λ st p q.
+        let n = order-length N W in
+        let u = counted opened row h room (order N) (omega arith) st p in
+        rw (← good-same (sequenceFrom N row st) S q) (rw n at u)
