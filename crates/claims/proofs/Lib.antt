@@ -15,3 +15,7 @@ pub mod Fine
 pub mod Opened
 pub mod Passing
 pub mod Counting
+pub mod ReadBack
+pub mod Bytes
+pub mod LinesBack
+pub mod SequenceBack
