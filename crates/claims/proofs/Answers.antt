@@ -1,13 +1,17 @@
 -- What was good in the end was good at each step, told to a continuation, so that what each step gave is a variable there.
 -- Assumes nothing.
 use Prim.Native.Nat.{ℕ}
-use mathlib.Core.Path.{_≡_, refl}
+use mathlib.Core.Path.{_≡_, refl, ap}
 use mathlib.Core.Bool.{Bool, true, false}
+use Rattle.rules.specs.declared.Refusal.{Refusal}
 use Rattle.rules.specs.Refusals.{Res, good, refused, _>>=_, _>>_, require}
 use Rattle.rules.proofs.Laws.{no-way}
 
 pub good-same : {A : Type 0} (a b : A) → good a ≡ good b → a ≡ b
 good-same a b e = cc
+
+pub refused-same : (A : Type 0) (r s : Refusal) → _≡_ {A = Res A} (refused r) (refused s) → r .number ≡ s .number
+refused-same A r s e = let z : r ≡ s = cc in ap (λ (x : Refusal). x .number) z
 
 pub from-bind : {A B : Type 0} (P : Type 0) (r : Res A) (k : A → Res B) (y : B) → (r >>= k) ≡ good y → ((x : A) → r ≡ good x → k x ≡ good y → P) → P
 unfolding _>>=_

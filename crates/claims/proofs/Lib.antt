@@ -19,3 +19,7 @@ pub mod ReadBack
 pub mod Bytes
 pub mod LinesBack
 pub mod SequenceBack
+pub mod Texts
+pub mod Delivered
+pub mod MappedPasses
+pub mod TwiceAtMost

@@ -1,1 +1,3 @@
 pub mod TrueOrder
+pub mod Passes
+pub mod Twice
