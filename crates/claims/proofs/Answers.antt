@@ -22,3 +22,16 @@ pub from-require : {B : Type 0} (P : Type 0) (t : Bool) (n : ℕ) (k : Res B) (y
 unfolding _>>_ require
 from-require P true n k y e f = f refl e
 from-require P false n k y e f = absurd (no-way (cc))
+
+-- what was refused in the end was refused at one step
+pub refused-bind : {A B : Type 0} (P : Type 0) (r : Res A) (k : A → Res B) (x : Refusal) → (r >>= k) ≡ refused x
+    → (r ≡ refused x → P) → ((a : A) → r ≡ good a → k a ≡ refused x → P) → P
+unfolding _>>=_
+refused-bind P (good a) k x e f g = g a refl e
+refused-bind P (refused y) k x e f g = f (cc)
+
+pub refused-require : {B : Type 0} (P : Type 0) (t : Bool) (n : ℕ) (k : Res B) (x : Refusal) → (require t n >> k) ≡ refused x
+    → (t ≡ false → n ≡ x .number → P) → (t ≡ true → k ≡ refused x → P) → P
+unfolding _>>_ require
+refused-require P true n k x e f g = g refl e
+refused-require {B} P false n k x e f g = f refl (refused-same B (record { number = n }) x e)

@@ -7,6 +7,7 @@ use mathlib.Core.List.{List, _++_}
 use lib.Dec.{ltb}
 use lib.ListN.{length, take, drop}
 use lib.Seq.{take-append-seam}
+use Rattle.rules.specs.declared.Refusal.{Refusal}
 use Rattle.rules.specs.Basics.{pick}
 use Rattle.rules.specs.Form.{form01}
 use Rattle.rules.specs.Refusals.{Res, good, refused, refuse}
@@ -45,6 +46,6 @@ pub nine-answered : (row : ℕ) (text out : List ℕ) → mapOutcome row text ou
 unfolding mapOutcome
 nine-answered row text out e = delivered-nine (mappedText form01 row text) out e
 
-pub nine-delivered : (row : ℕ) (text out : List ℕ) → mappedText form01 row text ≡ refuse 9 → mapOutcome row text out .answer ≡ refuse 9
+pub refusal-delivered : (row : ℕ) (text out : List ℕ) (x : Refusal) → mappedText form01 row text ≡ refused x → mapOutcome row text out .answer ≡ refused x
 unfolding mapOutcome delivered
-nine-delivered row text out e = ap (λ (r : Res (List ℕ)). delivered r out .answer) e
+refusal-delivered row text out x e = ap (λ (r : Res (List ℕ)). delivered r out .answer) e

@@ -23,3 +23,6 @@ pub mod Texts
 pub mod Delivered
 pub mod MappedPasses
 pub mod TwiceAtMost
+pub mod Room
+pub mod Numbers
+pub mod NoRoomExactly

@@ -1,3 +1,4 @@
 pub mod TrueOrder
 pub mod Passes
 pub mod Twice
+pub mod NoRoom
