@@ -9,13 +9,10 @@ use lib.ListN.{length, length-append}
 use Rattle.rules.specs.Refusals.{good}
 use Rattle.rules.specs.Netlist.{Netlist}
 use Rattle.rules.specs.Sequence.{Set, Sequence}
-use Rattle.rules.specs.Order.{order}
 use Rattle.rules.specs.Cells.{Slot, isReady, lowest, State, place, setCells, inReady, afterSet, inLowest, executeGate, executeGates, opening}
 use Rattle.rules.specs.Mapping.{sequenceFrom, mappedBy}
 use Rattle.rules.proofs.Laws.{no-way, bind-good}
 use Rattle.claims.proofs.Answers.{good-same, from-bind}
-use Rattle.claims.proofs.Reading.{Well}
-use Rattle.claims.proofs.Once.{order-length}
 use Rattle.claims.proofs.Opened.{ready-first}
 
 snoc-length : {A : Type 0} (l : List A) (x : A) → length (l ++ (x ∷ [])) ≡ suc (length l)
@@ -83,14 +80,13 @@ module _ (N : Netlist) where
         let v = all-gates l s₁ st q in
         omega arith
 
-    -- the claim on netlists
-    pub counting : Well N → 1 ≤ length (N .gates) → (opened row : ℕ) → 1 ≤ opened → N .inputs + opened ≤ row → (S : Sequence)
-        → mappedBy N (order N) renew (opening N opened row) row ≡ good S
+    -- the claim on netlists, along any list of as many gates
+    pub counting : (gs : List ℕ) → length gs ≡ length (N .gates) → 1 ≤ length (N .gates) → (opened row : ℕ) → 1 ≤ opened → N .inputs + opened ≤ row
+        → (S : Sequence) → mappedBy N gs renew (opening N opened row) row ≡ good S
         → (1 ≤ length (S .instructions)) × (length (S .instructions) ≤ 2 * length (N .gates))
     unfolding mappedBy sequenceFrom
-    counting W some-gate opened row h room S e =
+    counting gs n some-gate opened row h room S e =
         from-bind ((1 ≤ length (S .instructions)) × (length (S .instructions) ≤ 2 * length (N .gates)))
-        (executeGates N renew (order N) (opening N opened row)) _ S e λ st p q.
-        let n = order-length N W in
-        let u = counted opened row h room (order N) (omega arith) st p in
+        (executeGates N renew gs (opening N opened row)) _ S e λ st p q.
+        let u = counted opened row h room gs (omega arith) st p in
         rw (← good-same (sequenceFrom N row st) S q) (rw n at u)

@@ -1,20 +1,23 @@
 -- What placing a gate and setting cells keep, executing gates keeps: for any rule of sets, and any order that runs operands first.
 -- Assumes nothing.
-use Prim.Native.Nat.{ℕ, _≤_}
+use Prim.Native.Nat.{ℕ}
 use mathlib.Core.Path.{_≡_, refl, sym, _∙_}
 use mathlib.Core.Bool.{Bool, true, false, _||_}
 use mathlib.Core.List.{List, [], _∷_, _++_, append-nil, append-assoc}
 use mathlib.Core.Option.{Option, none, some}
-use lib.Dec.{ltb}
-use borrow.Author.Tests.{ltb-false}
+use lib.Dec.{ltb, leb}
+use borrow.Author.Tests.{ltb-false, le-leb}
 use lib.ListN.{getD}
 use Rattle.rules.specs.Basics.{mem}
 use Rattle.rules.specs.Refusals.{good}
 use Rattle.rules.specs.Netlist.{Netlist, operandsOf}
+use Rattle.rules.specs.Weight.{gateOperands}
 use Rattle.rules.specs.Cells.{Slot, blank, ready, isReady, lowest, State, place, setCells, inReady, afterSet, inLowest, executeGate, executeGates}
 use Rattle.rules.proofs.Laws.{no-way, bind-good, cons-more, cons-self}
+use Rattle.claims.proofs.Lists.{mem-keep}
 use Rattle.claims.proofs.Visits.{Runs}
-use Rattle.claims.proofs.Whole.{Gate}
+use Rattle.claims.proofs.Reading.{Gate}
+use Rattle.claims.proofs.Whole.{gateOperandsOf}
 use Rattle.claims.proofs.Slots.{lowest-ready}
 use Rattle.claims.proofs.Served.{present}
 
@@ -49,22 +52,22 @@ module _ (N : Netlist) (renew : List Slot → List ℕ) (P : State → Type 0)
       go (some c) p f = in-cell st I refl c p (cc)
       go none p f = renewed (renew (st .slots)) refl f
 
-  module _ (ops : ℕ → List ℕ) (operand : (g o : ℕ) → mem o (operandsOf N g) ≡ true → N .inputs ≤ o → mem o (ops g) ≡ true) where
-    here : (done : List ℕ) (g : ℕ) → ((o : ℕ) → mem o (ops g) ≡ true → mem o done ≡ true) → (o : ℕ) → mem o (operandsOf N g) ≡ true → present N done o ≡ true
-    unfolding present
-    here done g h o e = go (ltb o (N .inputs)) refl
-      where
-        go : (t : Bool) → ltb o (N .inputs) ≡ t → (ltb o (N .inputs) || mem o done) ≡ true
-        go true p = rw p
-        go false p = rw p (h o (operand g o e (ltb-false o (N .inputs) p)))
+  here : (done : List ℕ) (g : ℕ) → ((o : ℕ) → mem o (gateOperandsOf N g) ≡ true → mem o done ≡ true) → (o : ℕ) → mem o (operandsOf N g) ≡ true
+      → present N done o ≡ true
+  unfolding present gateOperands
+  here done g h o e = go (ltb o (N .inputs)) refl
+    where
+      go : (t : Bool) → ltb o (N .inputs) ≡ t → (ltb o (N .inputs) || mem o done) ≡ true
+      go true p = rw p
+      go false p = rw p (h o (mem-keep (leb (N .inputs)) (operandsOf N g) o e (le-leb (N .inputs) o (ltb-false o (N .inputs) p))))
 
-    pub executed-all : (l : List ℕ) (st st′ : State) → P st → Runs ops (st .done) l → ((x : ℕ) → mem x l ≡ true → Gate N x)
-        → executeGates N renew l st ≡ good st′ → P st′ × (st′ .done ≡ st .done ++ l)
-    unfolding executeGates Runs
-    executed-all [] st st′ I r k e = let z : st ≡ st′ = cc in rw (← z) (I, sym (append-nil (st .done)))
-    executed-all (g ∷ l) st st′ I r k e =
-        let (s₁, p, q) = bind-good (executeGate N renew g st) (executeGates N renew l) st′ e in
-        let turn : Turn N (st .done) g = record { gate = k g (cons-self g l); new = r .1; had = here (st .done) g (r .0) } in
-        let (J, d) = executed st s₁ g I turn p in
-        let (K, z) = executed-all l s₁ st′ J (rw d (r .2)) (λ x f. k x (cons-more x g l f)) q in
-        (K, z ∙ rw (d, append-assoc))
+  pub executed-all : (l : List ℕ) (st st′ : State) → P st → Runs (gateOperandsOf N) (st .done) l → ((x : ℕ) → mem x l ≡ true → Gate N x)
+      → executeGates N renew l st ≡ good st′ → P st′ × (st′ .done ≡ st .done ++ l)
+  unfolding executeGates Runs
+  executed-all [] st st′ I r k e = let z : st ≡ st′ = cc in rw (← z) (I, sym (append-nil (st .done)))
+  executed-all (g ∷ l) st st′ I r k e =
+      let (s₁, p, q) = bind-good (executeGate N renew g st) (executeGates N renew l) st′ e in
+      let turn : Turn N (st .done) g = record { gate = k g (cons-self g l); new = r .1; had = here (st .done) g (r .0) } in
+      let (J, d) = executed st s₁ g I turn p in
+      let (K, z) = executed-all l s₁ st′ J (rw d (r .2)) (λ x f. k x (cons-more x g l f)) q in
+      (K, z ∙ rw (d, append-assoc))

@@ -1,6 +1,6 @@
 -- What the mapping rule writes reads well: set cells ascend, the cells of a NOR all differ, every cell is in the row.
 -- Assumes nothing.
-use Prim.Native.Nat.{ℕ, _+_, _-_, _<_, _≤_}
+use Prim.Native.Nat.{ℕ, _<_, _≤_}
 use native.Mathlib.Omega.{arith}
 use mathlib.Core.Path.{_≡_, refl, sym, ap, _∙_}
 use mathlib.Core.Bool.{true, false}
@@ -12,8 +12,7 @@ use Rattle.rules.specs.Sequence.{Instruction, Set, Nor}
 use Rattle.rules.specs.Cells.{Slot, blank, ready, keeps, cellOf, State, place, setCells}
 use Rattle.rules.proofs.Laws.{no-way, or-none, cons-cases, cons-more, cons-self}
 use Rattle.claims.proofs.Lists.{absent, asc-low, asc-rest, Each, each-snoc}
-use Rattle.claims.proofs.Reading.{Well, WellGate}
-use Rattle.claims.proofs.Whole.{Gate}
+use Rattle.claims.proofs.Reading.{Well, WellGate, well-gate}
 use Rattle.claims.proofs.Slots.{known, cells-mem}
 use Rattle.claims.proofs.Executing.{Turn}
 use Rattle.claims.proofs.Keeping.{Kept, in-row, operand-kept, Sparing}
@@ -53,13 +52,6 @@ differ sl (o ∷ os) a h =
     keeps-same : {a b : ℕ} → keeps a ≡ keeps b → a ≡ b
     keeps-same e = cc
 
-well-gate : (N : Netlist) → Well N → (g : ℕ) → Gate N g → WellGate g (operandsOf N g)
-unfolding operandsOf
-well-gate N W g gate =
-    let z : N .inputs + (g - N .inputs) ≡ g = omega arith in
-    let h : g - N .inputs < length (N .gates) = omega arith in
-    rw z at (W .gate (g - N .inputs) h)
-
 module _ (N : Netlist) (W : Well N) (row : ℕ) (st : State) (I : Kept N row st) (g c : ℕ) (turn : Turn N (st .done) g) (rd : getD (st .slots) c blank ≡ ready) where
   abbrev sl : List Slot
   sl = st .slots
@@ -87,8 +79,8 @@ module _ (N : Netlist) (W : Well N) (row : ℕ) (st : State) (I : Kept N row st)
   unfolding place Fine
   place-fine f = each-snoc (Fine row) 0 (st .code) (Nor c (map (cellOf sl) (operandsOf N g))) f nor-fine
 
-pub set-fine : (N : Netlist) (row : ℕ) (renew : List Slot → List ℕ) → Sparing renew → (st : State) → Kept N row st → (c : ℕ) (cs : List ℕ) → renew (st .slots) ≡ c ∷ cs
-    → AllFine row (st .code) → AllFine row (setCells N (c ∷ cs) st .code)
+pub set-fine : (N : Netlist) (row : ℕ) (renew : List Slot → List ℕ) → Sparing renew → (st : State) → Kept N row st
+    → (c : ℕ) (cs : List ℕ) → renew (st .slots) ≡ c ∷ cs → AllFine row (st .code) → AllFine row (setCells N (c ∷ cs) st .code)
 unfolding setCells Fine
 set-fine N row renew R st I c cs e f =
     each-snoc (Fine row) 0 (st .code) (Set (c ∷ cs)) f (record {

@@ -103,7 +103,10 @@ pub record Sparing (renew : List Slot → List ℕ) : Type 0 where
 pub allSpent-sparing : Sparing allSpent
 unfolding allSpent
 allSpent-sparing = record {
-  keeper = λ l c s e. absent (mem c (those isSpent 0 l)) (λ m. let (x, p, h, q) = those-in isSpent l 0 c m in let z : x ≡ c = omega arith in no-way (let k = rw z at (is-spent (getD l x blank) q) in cc));
+  keeper = λ l c s e. absent (mem c (those isSpent 0 l)) (λ m.
+      let (x, p, h, q) = those-in isSpent l 0 c m in
+      let z : x ≡ c = omega arith in
+      no-way (let k = rw z at (is-spent (getD l x blank) q) in cc));
   inside = λ l c m. let (x, p, h, q) = those-in isSpent l 0 c m in omega arith;
   rising = λ l. those-asc isSpent l 0;
 }

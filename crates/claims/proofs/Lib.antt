@@ -1,10 +1,11 @@
 pub mod Answers
 pub mod Lists
-pub mod Visits
 pub mod Reading
+pub mod Visits
 pub mod Whole
 pub mod Once
 pub mod OrderIsTrue
+pub mod Ordered
 pub mod Slots
 pub mod Served
 pub mod Executing
@@ -18,6 +19,7 @@ pub mod Counting
 pub mod ReadBack
 pub mod Bytes
 pub mod LinesBack
+pub mod PartsBack
 pub mod SequenceBack
 pub mod Texts
 pub mod Delivered

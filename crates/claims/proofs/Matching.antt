@@ -14,8 +14,7 @@ use Rattle.rules.specs.Netlist.{Netlist, operandsOf, twins}
 use Rattle.rules.specs.Book.{gateWith, gateOn}
 use Rattle.rules.proofs.Laws.{no-way, and-true, or-false, sameList-eq, sameList-refl}
 use Rattle.claims.proofs.Lists.{absent, any-false}
-use Rattle.claims.proofs.Reading.{Well}
-use Rattle.claims.proofs.Whole.{Gate}
+use Rattle.claims.proofs.Reading.{Well, Gate, well-gate}
 
 sort-ascending : (l : List ℕ) → ascending l ≡ true → sort l ≡ l
 unfolding ascending sort insert pick
@@ -42,5 +41,5 @@ pub gate-found : (N : Netlist) → Well N → (g : ℕ) → Gate N g → gateOn 
 unfolding gateOn operandsOf
 gate-found N W g gate =
     let z : N .inputs + (g - N .inputs) ≡ g = omega arith in
-    let h : g - N .inputs < length (N .gates) = omega arith in
-    rw (sort-ascending (getD (N .gates) (g - N .inputs) []) (W .gate (g - N .inputs) h .rising)) (own-gate (N .inputs) (N .gates) (W .single) (g - N .inputs) h ∙ ap {B = Option ℕ} some z)
+    rw (sort-ascending (operandsOf N g) (well-gate N W g gate .rising))
+    (own-gate (N .inputs) (N .gates) (W .single) (g - N .inputs) (omega arith) ∙ ap {B = Option ℕ} some z)

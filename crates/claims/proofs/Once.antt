@@ -21,7 +21,9 @@ runs-new : (ops : ℕ → List ℕ) (d l : List ℕ) (x : ℕ) → Runs ops d l 
 unfolding Runs
 runs-new ops d [] x r e f = mem-nil x f
 runs-new ops d (g ∷ l) x r e f =
-    cons-cases ⊥ x g l f (λ p. no-way (let e′ : mem g d ≡ true = rw p at e in let k = r .1 in cc)) (λ p. runs-new ops (d ++ (g ∷ [])) l x (r .2) (snoc-more x d g e) p)
+    cons-cases ⊥ x g l f
+    (λ p. no-way (let e′ : mem g d ≡ true = rw p at e in let k = r .1 in cc))
+    (λ p. runs-new ops (d ++ (g ∷ [])) l x (r .2) (snoc-more x d g e) p)
 
 pub runs-once : (ops : ℕ → List ℕ) (d l : List ℕ) → Runs ops d l → repeats l ≡ false
 unfolding Runs repeats
@@ -71,7 +73,8 @@ tally-snoc n (suc k) g d e h l = go (ℕ-discrete n g) (tally-snoc (suc n) k g d
     go (yes p) rec = rw (p, snoc-self d g, e) (omega (arith, tally-out (suc g) k g d (omega arith)))
     go (no q) rec = rw (mem-snoc n g d q) (omega (arith, rec (omega arith) (omega arith)))
 
-runs-tally : (ops : ℕ → List ℕ) (n k : ℕ) (d l : List ℕ) → Runs ops d l → ((x : ℕ) → mem x l ≡ true → (n ≤ x) × (x < n + k)) → tally n k (d ++ l) ≡ tally n k d + length l
+runs-tally : (ops : ℕ → List ℕ) (n k : ℕ) (d l : List ℕ) → Runs ops d l → ((x : ℕ) → mem x l ≡ true → (n ≤ x) × (x < n + k))
+    → tally n k (d ++ l) ≡ tally n k d + length l
 unfolding Runs
 runs-tally ops n k d [] r h = rw append-nil (omega arith)
 runs-tally ops n k d (g ∷ l) r h =

@@ -63,8 +63,8 @@ module _ (N : Netlist) (row opened : ℕ) (room : N .inputs + opened ≤ row) wh
   work = replicate opened ready ++ replicate (row - N .inputs - opened) blank
 
   at-input : (c : ℕ) → c < N .inputs → getD first c blank ≡ keeps c
-  unfolding opening
-  at-input c h = let z : 0 + c ≡ c = omega arith in front keeps 0 (N .inputs) c (replicate opened ready ++ replicate (row - N .inputs - opened) blank) blank h ∙ ap keeps z
+  unfolding opening work
+  at-input c h = let z : 0 + c ≡ c = omega arith in front keeps 0 (N .inputs) c work blank h ∙ ap keeps z
 
   at-work : (c : ℕ) → N .inputs ≤ c → getD first c blank ≡ getD work (c - N .inputs) blank
   unfolding opening work

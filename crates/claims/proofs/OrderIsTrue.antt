@@ -13,7 +13,7 @@ use Rattle.claims.proofs.Reading.{Well, netlist-read}
 use Rattle.claims.proofs.Whole.{order-runs, order-gates, order-all, order-operand}
 use Rattle.claims.proofs.Once.{runs-once, order-length}
 
-well-ordered : (N : Netlist) → Well N → TrueOrder N (order N)
+pub well-ordered : (N : Netlist) → Well N → TrueOrder N (order N)
 unfolding gateSignals
 well-ordered N W = record {
   once = runs-once (visitOrder N) [] (order N) (order-runs N W);

@@ -1,4 +1,4 @@
--- Every sequence that the mapping rule writes passes the checker and reads well: from any opening that fits, by any sparing rule of sets.
+-- Every sequence that the mapping rule writes passes the checker and reads well: along any true order, from any opening that fits, by any sparing rule of sets.
 -- Assumes nothing.
 use Prim.Native.Nat.{ℕ, _+_, _<_, _≤_}
 use native.Mathlib.Omega.{arith}
@@ -12,14 +12,14 @@ use Rattle.rules.specs.Basics.{mem, setAll}
 use Rattle.rules.specs.Refusals.{good, require, _>>=_, _>>_}
 use Rattle.rules.specs.Netlist.{Netlist}
 use Rattle.rules.specs.Sequence.{Sequence}
-use Rattle.rules.specs.Order.{visitOrder, order}
 use Rattle.rules.specs.Cells.{Slot, blank, keeps, cellOf, State, executeGates, opening}
 use Rattle.rules.specs.Mapping.{sequenceFrom, mappedBy}
 use Rattle.rules.specs.Book.{Cell, unknown, ready as set-ready, holds, isHolding, placed, checked}
 use Rattle.rules.proofs.Laws.{no-way, cons-more, cons-self, or-right}
+use Rattle.claims.specs.TrueOrder.{TrueOrder}
 use Rattle.claims.proofs.Answers.{good-same, from-bind}
 use Rattle.claims.proofs.Reading.{Well}
-use Rattle.claims.proofs.Whole.{order-runs, order-gates, order-all, order-operand}
+use Rattle.claims.proofs.Ordered.{true-runs, true-gates, true-all}
 use Rattle.claims.proofs.Slots.{known, cell-at, cells-mem}
 use Rattle.claims.proofs.Served.{present, released-output}
 use Rattle.claims.proofs.Executing.{executed-all}
@@ -51,9 +51,9 @@ unfolding placed isHolding
 placed-of b sl [] h = refl
 placed-of b sl (o ∷ os) h = rw (h o (cons-self o os), eq-eqb o o refl) (placed-of b sl os (λ x e. h x (cons-more x o os e)))
 
-module _ (N : Netlist) (W : Well N) (row : ℕ) where
-  -- a state that is sound, with all gates executed, gives a sequence that passes
-  finished : (st : State) → Invariant N row st → st .done ≡ order N → Right N row (sequenceFrom N row st)
+module _ (N : Netlist) (W : Well N) (row : ℕ) (gs : List ℕ) (T : TrueOrder N gs) where
+  -- when all gates have been executed, the state gives a sequence that passes
+  finished : (st : State) → Invariant N row st → st .done ≡ gs → Right N row (sequenceFrom N row st)
   unfolding sequenceFrom checked _>>=_ _>>_ require present
   finished st I d = record {
     row-size = refl;
@@ -73,13 +73,16 @@ module _ (N : Netlist) (W : Well N) (row : ℕ) where
   }
     where
       output-present : (o : ℕ) → mem o (N .outputs) ≡ true → present N (st .done) o ≡ true
-      output-present o m = or-right (ltb o (N .inputs)) (mem o (st .done)) (rw d (order-all N W o (W .output o m)))
+      output-present o m = or-right (ltb o (N .inputs)) (mem o (st .done)) (rw d (true-all N gs T o (W .output o m)))
 
       output-kept : (o : ℕ) → mem o (N .outputs) ≡ true → getD (st .slots) (cellOf (st .slots) o) blank ≡ keeps o
       output-kept o m = let (x, k) = I .kept .needed o (output-present o m) (released-output N (st .done) o m) in cell-at (st .slots) o x k
 
   module _ (renew : List Slot → List ℕ) (R : Sparing renew) where
-    all-executed : (st st′ : State) → Invariant N row st → st .done ≡ [] → executeGates N renew (order N) st ≡ good st′ → Invariant N row st′ × (st′ .done ≡ order N)
+    spared : (s : State) (cs : List ℕ) → renew (s .slots) ≡ cs → (x t : ℕ) → getD (s .slots) x blank ≡ keeps t → mem x cs ≡ false
+    spared s cs p x t k = rw p at (R .keeper (s .slots) x t k)
+
+    all-executed : (st st′ : State) → Invariant N row st → st .done ≡ [] → executeGates N renew gs st ≡ good st′ → Invariant N row st′ × (st′ .done ≡ gs)
     all-executed st st′ I d e =
         let (J, z) = executed-all N renew (Invariant N row)
         (λ s g c K turn rd. record {
@@ -88,20 +91,21 @@ module _ (N : Netlist) (W : Well N) (row : ℕ) where
           agrees = place-agrees N W row s (K .kept) (K .book) (K .agrees) g c turn rd;
           fine = place-fine N W row s (K .kept) g c turn rd (K .fine);
         })
-        (λ s c cs K p. let spares : (x t : ℕ) → getD (s .slots) x blank ≡ keeps t → mem x (c ∷ cs) ≡ false = λ x t k. rw p at (R .keeper (s .slots) x t k) in record {
-          kept = set-keeps N row s (c ∷ cs) spares (K .kept);
+        (λ s c cs K p. record {
+          kept = set-keeps N row s (c ∷ cs) (spared s (c ∷ cs) p) (K .kept);
           book = setAll set-ready (c ∷ cs) (K .book);
-          agrees = set-agrees N row s (K .kept) (K .book) (K .agrees) (c ∷ cs) spares;
+          agrees = set-agrees N row s (K .kept) (K .book) (K .agrees) (c ∷ cs) (spared s (c ∷ cs) p);
           fine = set-fine N row renew R s (K .kept) c cs p (K .fine);
         })
-        (visitOrder N) (order-operand N W) (order N) st st′ I (rw d (order-runs N W)) (order-gates N W) e in
+        gs st st′ I (rw d (true-runs N gs T)) (true-gates N gs T) e in
         (J, z ∙ rw d)
 
     -- the claim on netlists
-    pub passing : (opened : ℕ) → 1 ≤ opened → N .inputs + opened ≤ row → (S : Sequence) → mappedBy N (order N) renew (opening N opened row) row ≡ good S → Right N row S
+    pub passing : (opened : ℕ) → 1 ≤ opened → N .inputs + opened ≤ row → (S : Sequence)
+        → mappedBy N gs renew (opening N opened row) row ≡ good S → Right N row S
     unfolding mappedBy
     passing opened some-cell room S e =
-        from-bind (Right N row S) (executeGates N renew (order N) (opening N opened row)) _ S e λ st p q.
+        from-bind (Right N row S) (executeGates N renew gs (opening N opened row)) _ S e λ st p q.
         let I : Invariant N row (opening N opened row) = record {
           kept = opening-keeps N row opened room;
           book = opened-book N row opened room;

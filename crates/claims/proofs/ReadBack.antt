@@ -26,7 +26,13 @@ digit-is v h = go (decLt v 10)
   where
     go : Dec (v < 10) → isDigit (digitOf v) ≡ true
     go (yes p) = rw (lt-ltb v 10 p, le-leb 48 (v + 48) (omega arith), le-leb (v + 48) 57 (omega arith))
-    go (no q) = rw (le-ltb v 10 (omega arith), le-leb 48 (v + 55) (omega arith), lt-leb (v + 55) 57 (omega arith), le-leb 65 (v + 55) (omega arith), le-leb (v + 55) 70 (omega arith))
+    go (no q) = rw (
+      le-ltb v 10 (omega arith),
+      le-leb 48 (v + 55) (omega arith),
+      lt-leb (v + 55) 57 (omega arith),
+      le-leb 65 (v + 55) (omega arith),
+      le-leb (v + 55) 70 (omega arith),
+    )
 
 digit-value : (v : ℕ) → v < 16 → valueOf (digitOf v) ≡ v
 unfolding valueOf digitOf pick
@@ -34,7 +40,13 @@ digit-value v h = go (decLt v 10)
   where
     go : Dec (v < 10) → valueOf (digitOf v) ≡ v
     go (yes p) = rw (lt-ltb v 10 p, le-leb 48 (v + 48) (omega arith), le-leb (v + 48) 57 (omega arith)) (omega arith)
-    go (no q) = rw (le-ltb v 10 (omega arith), le-leb 48 (v + 55) (omega arith), lt-leb (v + 55) 57 (omega arith), le-leb 65 (v + 55) (omega arith), le-leb (v + 55) 70 (omega arith)) (omega arith)
+    go (no q) = rw (
+      le-ltb v 10 (omega arith),
+      le-leb 48 (v + 55) (omega arith),
+      lt-leb (v + 55) 57 (omega arith),
+      le-leb 65 (v + 55) (omega arith),
+      le-leb (v + 55) 70 (omega arith),
+    ) (omega arith)
 
 -- the digits of a written line
 hex : List ℕ → List ℕ

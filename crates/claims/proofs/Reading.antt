@@ -1,6 +1,7 @@
 -- What the netlist reader's tests give: a well-formed netlist within the limits.
 -- Assumes nothing.
-use Prim.Native.Nat.{ℕ, zero, suc, _+_, _<_, _≤_}
+use Prim.Native.Nat.{ℕ, zero, suc, _+_, _-_, _<_, _≤_}
+use native.Mathlib.Omega.{arith}
 use mathlib.Core.Path.{_≡_, refl, sym, ap, _∙_}
 use mathlib.Core.Bool.{true, false, _&&_, not}
 use mathlib.Core.List.{List, [], _∷_, _++_, append-assoc, append-nil}
@@ -11,7 +12,7 @@ use Rattle.rules.specs.Basics.{within, all, mem, repeats, ascending}
 use Rattle.rules.specs.Form.{Form, two}
 use Rattle.rules.specs.Refusals.{Res, good, orRefuse}
 use Rattle.rules.specs.Lines.{line, nothing, numbers, fields}
-use Rattle.rules.specs.Netlist.{Netlist, due, Head, headOf, gateOf, outputOf, Part, lines, netlistLines, allUsed, twins, wellFormed, netlistOf}
+use Rattle.rules.specs.Netlist.{Netlist, operandsOf, due, Head, headOf, gateOf, outputOf, Part, lines, netlistLines, allUsed, twins, wellFormed, netlistOf}
 use Rattle.rules.proofs.Laws.{bind-good, then-good, and-true}
 use Rattle.claims.proofs.Answers.{good-same, from-bind, from-require}
 use Rattle.claims.proofs.Lists.{within-true, all-mem, Each, each-at, each-mem}
@@ -40,6 +41,17 @@ pub record Well (N : Netlist) : Type 0 where
   pub gate : (j : ℕ) → j < length (N .gates) → WellGate (N .inputs + j) (getD (N .gates) j [])
   pub single : twins (N .gates) ≡ false
   pub output : (o : ℕ) → mem o (N .outputs) ≡ true → (N .inputs ≤ o) × (o < N .inputs + length (N .gates))
+
+-- a signal that is a gate
+abbrev pub Gate : Netlist → ℕ → Type 0
+Gate N s = (N .inputs ≤ s) × (s < N .inputs + length (N .gates))
+
+pub well-gate : (N : Netlist) → Well N → (g : ℕ) → Gate N g → WellGate g (operandsOf N g)
+unfolding operandsOf
+well-gate N W g gate =
+    let z : N .inputs + (g - N .inputs) ≡ g = omega arith in
+    let h : g - N .inputs < length (N .gates) = omega arith in
+    rw z at (W .gate (g - N .inputs) h)
 
 -- a netlist within the numbers of a form
 pub record Sized (F : Form) (N : Netlist) : Type 0 where
@@ -98,7 +110,8 @@ module _ (F : Form) where
       let z : record { inputs = h .inputs; gates = gs .got; outputs = os .got } ≡ p .got = ap (λ (q : Part Netlist). q .got) (good-same _ p j) in
       let H = head-read (l .bytes) h c in
       let (gates, gq, gn, ge) = lines-read F (gateOf F) WellGate gate-read (h .gates) (h .inputs) [] (l .rest) gs f in
-      let (outs, oq, on, oe) = lines-read F (λ _. outputOf F h) (λ _ o. (h .inputs ≤ o) × (o < h .inputs + h .gates)) (λ _. output-read h) (h .outputs) 0 [] (gs .tail) os i in
+      let (outs, oq, on, oe) =
+      lines-read F (λ _. outputOf F h) (λ _ o. (h .inputs ≤ o) × (o < h .inputs + h .gates)) (λ _. output-read h) (h .outputs) 0 [] (gs .tail) os i in
       let tw′ : twins (gs .got) ≡ false = rw (← z) at tw in
       rw (← z) (
         record {

@@ -13,16 +13,19 @@ use Rattle.rules.specs.Refusals.{good, _>>=_}
 use Rattle.rules.specs.Netlist.{Netlist, netlistOf}
 use Rattle.rules.specs.Sequence.{Sequence, sequenceOf, sequenceText}
 use Rattle.rules.specs.Cells.{allSpent}
+use Rattle.rules.specs.Order.{order}
 use Rattle.rules.specs.Mapping.{mapped, mappedText}
 use Rattle.rules.specs.Book.{checked, checkedText}
 use Rattle.claims.proofs.Answers.{good-same, from-bind, from-require}
 use Rattle.claims.proofs.Lists.{within-true}
 use Rattle.claims.proofs.Reading.{Sized, netlist-read}
+use Rattle.claims.proofs.OrderIsTrue.{well-ordered}
 use Rattle.claims.proofs.Keeping.{allSpent-sparing}
 use Rattle.claims.proofs.Passing.{Right, passing}
 use Rattle.claims.proofs.Counting.{counting}
 use Rattle.claims.proofs.Bytes.{bytes, holding}
-use Rattle.claims.proofs.SequenceBack.{Fits, Writable, sequence-back}
+use Rattle.claims.proofs.PartsBack.{Fits}
+use Rattle.claims.proofs.SequenceBack.{Writable, sequence-back}
 
 -- a sequence text t mapped from a netlist text
 pub record Mapped (F : Form) (text t : List ℕ) : Type 0 where
@@ -58,8 +61,9 @@ module _ (F : Form) (fits : Fits F) (row : ℕ) (text : List ℕ) where
       let h = within-true 2 (F .rowMost) row size in
       let i = ltb-true (N .inputs) row room in
       let (W, Z) = netlist-read F text N read in
-      let R = passing N W row allSpent allSpent-sparing (row - N .inputs) (omega arith) (omega arith) S d in
-      let n = counting N allSpent W (Z .gates .0) (row - N .inputs) row (omega arith) (omega arith) S d in
+      let T = well-ordered N W in
+      let R = passing N W row (order N) T allSpent allSpent-sparing (row - N .inputs) (omega arith) (omega arith) S d in
+      let n = counting N allSpent (order N) (T .as-many) (Z .gates .0) (row - N .inputs) row (omega arith) (omega arith) S d in
       let back = sequence-back F fits S (writable N Z (h .0) (h .1) i S R n) in
       rw (← good-same (sequenceText F S) t c) (record {
         netlist = N;

@@ -15,22 +15,13 @@ use Rattle.rules.specs.Order.{roots, visitOrder, visit, order}
 use Rattle.rules.proofs.Laws.{by-pick, mem-nil}
 use Rattle.claims.proofs.Lists.{keep-mem, mem-keep, any-at, upto-mem, upto-in}
 use Rattle.claims.proofs.Visits.{Runs, runs-mem, Visited, wider, each-visited, visit-visited}
-use Rattle.claims.proofs.Reading.{Well}
+use Rattle.claims.proofs.Reading.{Well, Gate, well-gate}
 
--- a signal that is a gate
-abbrev pub Gate : Netlist → ℕ → Type 0
-Gate N s = (N .inputs ≤ s) × (s < N .inputs + length (N .gates))
-
--- a gate reads only signals lower than its own
-pub operands-lower : (N : Netlist) → Well N → (g o : ℕ) → Gate N g → mem o (operandsOf N g) ≡ true → o < g
-unfolding operandsOf
-operands-lower N W g o k e =
-    let z : N .inputs + (g - N .inputs) ≡ g = omega arith in
-    let h : g - N .inputs < length (N .gates) = omega arith in
-    rw z at (W .gate (g - N .inputs) h .lower o e)
+abbrev pub gateOperandsOf : Netlist → ℕ → List ℕ
+gateOperandsOf N g = gateOperands (N .inputs) (operandsOf N g)
 
 -- `ops`: the gate operands of each gate, in any order
-module _ (N : Netlist) (W : Well N) (ops : ℕ → List ℕ) (same : (g o : ℕ) → mem o (ops g) ≡ mem o (gateOperands (N .inputs) (operandsOf N g))) where
+module _ (N : Netlist) (W : Well N) (ops : ℕ → List ℕ) (same : (g o : ℕ) → mem o (ops g) ≡ mem o (gateOperandsOf N g)) where
   operand : (g o : ℕ) → mem o (ops g) ≡ true → (mem o (operandsOf N g) ≡ true) × (N .inputs ≤ o)
   unfolding gateOperands
   operand g o e = let z = keep-mem (leb (N .inputs)) (operandsOf N g) o (sym (same g o) ∙ e) in (z .0, leb-true (N .inputs) o (z .1))
@@ -40,7 +31,7 @@ module _ (N : Netlist) (W : Well N) (ops : ℕ → List ℕ) (same : (g o : ℕ)
   visits-operand g o e h = same g o ∙ mem-keep (leb (N .inputs)) (operandsOf N g) o e (le-leb (N .inputs) o h)
 
   low : (g o : ℕ) → Gate N g → mem o (ops g) ≡ true → (o < g) × Gate N o
-  low g o k e = let z = operand g o e in let l = operands-lower N W g o k (z .0) in (l, omega arith)
+  low g o k e = let z = operand g o e in let l = well-gate N W g k .lower o (z .0) in (l, omega arith)
 
   roots-gate : (o : ℕ) → mem o (roots N) ≡ true → Gate N o
   unfolding roots gateSignals
@@ -80,7 +71,7 @@ module _ (N : Netlist) (W : Well N) (ops : ℕ → List ℕ) (same : (g o : ℕ)
       go : (t : Bool) → isRead N x ≡ t → ((r : ℕ) → Gate N r → N .inputs + length (N .gates) ≤ r + k → mem r orderBy ≡ true) → mem x orderBy ≡ true
       go true e rec =
           let (r, gate, f) = read-at x e in
-          let b = operands-lower N W r x gate f in
+          let b = well-gate N W r gate .lower x f in
           runs-mem ops [] orderBy r x by-runs (rec r gate (omega arith)) (visits-operand r x f (g .0))
       go false e rec = visited .1 x (is-root x g e)
 
@@ -107,7 +98,7 @@ unfolding highToLow mem
 sort-mem w [] x = refl
 sort-mem w (a ∷ l) x = insert-mem w a (highToLow w l) x ∙ rw (sort-mem w l x)
 
-visit-same : (N : Netlist) (g o : ℕ) → mem o (visitOrder N g) ≡ mem o (gateOperands (N .inputs) (operandsOf N g))
+visit-same : (N : Netlist) (g o : ℕ) → mem o (visitOrder N g) ≡ mem o (gateOperandsOf N g)
 unfolding visitOrder
 visit-same N g o = sort-mem (weightIn (weights N)) (gateOperands (N .inputs) (operandsOf N g)) o
 
