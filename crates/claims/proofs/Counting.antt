@@ -4,15 +4,16 @@ use Prim.Native.Nat.{ℕ, suc, _+_, _*_, _≤_}
 use native.Mathlib.Omega.{arith}
 use mathlib.Core.Path.{_≡_}
 use mathlib.Core.List.{List, [], _∷_, _++_}
-use mathlib.Core.Option.{Option, none, some}
+use mathlib.Core.Option.{some}
 use lib.ListN.{length, length-append}
 use Rattle.rules.specs.Refusals.{good}
 use Rattle.rules.specs.Netlist.{Netlist}
 use Rattle.rules.specs.Sequence.{Set, Sequence}
-use Rattle.rules.specs.Cells.{Slot, isReady, lowest, State, place, setCells, inReady, afterSet, inLowest, executeGate, executeGates, opening}
+use Rattle.rules.specs.Cells.{Slot, isReady, lowest, State, place, setCells, executeGate, executeGates, opening}
 use Rattle.rules.specs.Mapping.{sequenceFrom, mappedBy}
 use Rattle.rules.proofs.Laws.{no-way, bind-good}
 use Rattle.claims.proofs.Answers.{good-same, from-bind}
+use Rattle.claims.proofs.Executing.{gate-cases}
 use Rattle.claims.proofs.Opened.{ready-first}
 
 snoc-length : {A : Type 0} (l : List A) (x : A) → length (l ++ (x ∷ [])) ≡ suc (length l)
@@ -31,33 +32,17 @@ module _ (N : Netlist) where
     -- one instruction where a cell is ready
     one-more : (g : ℕ) (st st′ : State) (c : ℕ) → lowest isReady 0 (st .slots) ≡ some c → executeGate N renew g st ≡ good st′
         → length (st′ .code) ≡ suc (length (st .code))
-    unfolding executeGate inLowest
-    one-more g st st′ c p e = go (lowest isReady 0 (st .slots)) p e
-      where
-        go : (o : Option ℕ) → o ≡ some c → inLowest N renew g st o ≡ good st′ → length (st′ .code) ≡ suc (length (st .code))
-        go none q f = absurd (no-way (cc))
-        go (some x) q f = rw (← good-same (place N g x st) st′ f) (place-length g x st)
+    one-more g st st′ c p e =
+        gate-cases N renew (length (st′ .code) ≡ suc (length (st .code))) g st st′ e (λ x _ z. rw (← z) (place-length g x st))
+        (λ d ds x q _ _ _. absurd (no-way (cc)))
 
     -- else two
     one-or-two : (g : ℕ) (st st′ : State) → executeGate N renew g st ≡ good st′
         → (suc (length (st .code)) ≤ length (st′ .code)) × (length (st′ .code) ≤ length (st .code) + 2)
-    unfolding executeGate inLowest afterSet inReady
-    one-or-two g st st′ e = go (lowest isReady 0 (st .slots)) e
-      where
-        Goal : Type 0
-        Goal = (suc (length (st .code)) ≤ length (st′ .code)) × (length (st′ .code) ≤ length (st .code) + 2)
-
-        again : (cs : List ℕ) (o : Option ℕ) → inReady N g (setCells N cs st) o ≡ good st′ → Goal
-        again cs none f = absurd (no-way (cc))
-        again cs (some x) f = rw (← good-same (place N g x (setCells N cs st)) st′ f) (omega (arith, place-length g x (setCells N cs st), set-length cs st))
-
-        renewed : (l : List ℕ) → afterSet N g st l ≡ good st′ → Goal
-        renewed [] f = absurd (no-way (cc))
-        renewed (c ∷ cs) f = again (c ∷ cs) (lowest isReady 0 (setCells N (c ∷ cs) st .slots)) f
-
-        go : (o : Option ℕ) → inLowest N renew g st o ≡ good st′ → Goal
-        go none f = renewed (renew (st .slots)) f
-        go (some x) f = rw (← good-same (place N g x st) st′ f) (omega (arith, place-length g x st))
+    one-or-two g st st′ e =
+        gate-cases N renew ((suc (length (st .code)) ≤ length (st′ .code)) × (length (st′ .code) ≤ length (st .code) + 2)) g st st′ e
+        (λ x _ z. rw (← z) (omega (arith, place-length g x st)))
+        (λ d ds x _ _ _ z. rw (← z) (omega (arith, place-length g x (setCells N (d ∷ ds) st), set-length (d ∷ ds) st)))
 
     all-gates : (l : List ℕ) (st st′ : State) → executeGates N renew l st ≡ good st′
         → (length (st .code) + length l ≤ length (st′ .code)) × (length (st′ .code) ≤ length (st .code) + 2 * length l)

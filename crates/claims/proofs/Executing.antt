@@ -14,12 +14,35 @@ use Rattle.rules.specs.Netlist.{Netlist, operandsOf}
 use Rattle.rules.specs.Weight.{gateOperands}
 use Rattle.rules.specs.Cells.{Slot, blank, ready, isReady, lowest, State, place, setCells, inReady, afterSet, inLowest, executeGate, executeGates}
 use Rattle.rules.proofs.Laws.{no-way, bind-good, cons-more, cons-self}
+use Rattle.claims.proofs.Answers.{good-same}
 use Rattle.claims.proofs.Lists.{mem-keep}
 use Rattle.claims.proofs.Visits.{Runs}
 use Rattle.claims.proofs.Reading.{Gate}
 use Rattle.claims.proofs.Whole.{gateOperandsOf}
 use Rattle.claims.proofs.Slots.{lowest-ready}
 use Rattle.claims.proofs.Served.{present}
+
+-- a gate that was executed went into the lowest ready cell, at once or after one set line
+pub gate-cases : (N : Netlist) (renew : List Slot → List ℕ) (P : Type 0) (g : ℕ) (st st′ : State) → executeGate N renew g st ≡ good st′
+    → ((c : ℕ) → lowest isReady 0 (st .slots) ≡ some c → place N g c st ≡ st′ → P)
+    → ((d : ℕ) (ds : List ℕ) (c : ℕ) → lowest isReady 0 (st .slots) ≡ none → renew (st .slots) ≡ d ∷ ds
+    → lowest isReady 0 (setCells N (d ∷ ds) st .slots) ≡ some c → place N g c (setCells N (d ∷ ds) st) ≡ st′ → P)
+    → P
+unfolding executeGate inLowest afterSet inReady
+gate-cases N renew P g st st′ e at-once after = go (lowest isReady 0 (st .slots)) refl e
+  where
+    again : (d : ℕ) (ds : List ℕ) → lowest isReady 0 (st .slots) ≡ none → renew (st .slots) ≡ d ∷ ds
+        → (o : Option ℕ) → lowest isReady 0 (setCells N (d ∷ ds) st .slots) ≡ o → inReady N g (setCells N (d ∷ ds) st) o ≡ good st′ → P
+    again d ds p q none r f = absurd (no-way (cc))
+    again d ds p q (some c) r f = after d ds c p q r (good-same (place N g c (setCells N (d ∷ ds) st)) st′ f)
+
+    renewed : lowest isReady 0 (st .slots) ≡ none → (l : List ℕ) → renew (st .slots) ≡ l → afterSet N g st l ≡ good st′ → P
+    renewed p [] q f = absurd (no-way (cc))
+    renewed p (d ∷ ds) q f = again d ds p q (lowest isReady 0 (setCells N (d ∷ ds) st .slots)) refl f
+
+    go : (o : Option ℕ) → lowest isReady 0 (st .slots) ≡ o → inLowest N renew g st o ≡ good st′ → P
+    go (some c) p f = at-once c p (good-same (place N g c st) st′ f)
+    go none p f = renewed p (renew (st .slots)) refl f
 
 -- a gate whose turn it is: not executed yet, its operands present
 pub record Turn (N : Netlist) (done : List ℕ) (g : ℕ) : Type 0 where
@@ -31,26 +54,11 @@ module _ (N : Netlist) (renew : List Slot → List ℕ) (P : State → Type 0)
     (placing : (st : State) (g c : ℕ) → P st → Turn N (st .done) g → getD (st .slots) c blank ≡ ready → P (place N g c st))
     (setting : (st : State) (c : ℕ) (cs : List ℕ) → P st → renew (st .slots) ≡ c ∷ cs → P (setCells N (c ∷ cs) st)) where
   executed : (st st′ : State) (g : ℕ) → P st → Turn N (st .done) g → executeGate N renew g st ≡ good st′ → P st′ × (st′ .done ≡ st .done ++ (g ∷ []))
-  unfolding executeGate inLowest afterSet inReady setCells place
-  executed st st′ g I turn e = go (lowest isReady 0 (st .slots)) refl e
-    where
-      Goal : Type 0
-      Goal = P st′ × (st′ .done ≡ st .done ++ (g ∷ []))
-
-      in-cell : (s : State) → P s → s .done ≡ st .done → (c : ℕ) → lowest isReady 0 (s .slots) ≡ some c → place N g c s ≡ st′ → Goal
-      in-cell s J d c p z = rw (← z) (placing s g c J (rw d turn) (lowest-ready (s .slots) c p), rw d)
-
-      again : (s : State) → P s → s .done ≡ st .done → (o : Option ℕ) → lowest isReady 0 (s .slots) ≡ o → inReady N g s o ≡ good st′ → Goal
-      again s J d none p f = absurd (no-way (cc))
-      again s J d (some c) p f = in-cell s J d c p (cc)
-
-      renewed : (l : List ℕ) → renew (st .slots) ≡ l → afterSet N g st l ≡ good st′ → Goal
-      renewed [] p f = absurd (no-way (cc))
-      renewed (c ∷ cs) p f = again (setCells N (c ∷ cs) st) (setting st c cs I p) refl (lowest isReady 0 ((setCells N (c ∷ cs) st) .slots)) refl f
-
-      go : (o : Option ℕ) → lowest isReady 0 (st .slots) ≡ o → inLowest N renew g st o ≡ good st′ → Goal
-      go (some c) p f = in-cell st I refl c p (cc)
-      go none p f = renewed (renew (st .slots)) refl f
+  unfolding setCells place
+  executed st st′ g I turn e =
+      gate-cases N renew (P st′ × (st′ .done ≡ st .done ++ (g ∷ []))) g st st′ e
+      (λ c p z. rw (← z) (placing st g c I turn (lowest-ready (st .slots) c p), refl))
+      (λ d ds c _ q p z. rw (← z) (placing (setCells N (d ∷ ds) st) g c (setting st d ds I q) turn (lowest-ready (setCells N (d ∷ ds) st .slots) c p), refl))
 
   here : (done : List ℕ) (g : ℕ) → ((o : ℕ) → mem o (gateOperandsOf N g) ≡ true → mem o done ≡ true) → (o : ℕ) → mem o (operandsOf N g) ≡ true
       → present N done o ≡ true
