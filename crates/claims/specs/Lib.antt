@@ -4,3 +4,7 @@ pub mod Tight
 pub mod Demands
 pub mod Wrong
 pub mod ShutOut
+pub mod TrueOrder
+pub mod Passes
+pub mod Twice
+pub mod NoRoom
