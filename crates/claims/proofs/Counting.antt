@@ -12,7 +12,7 @@ use Rattle.rules.specs.Sequence.{Set, Sequence}
 use Rattle.rules.specs.Cells.{Slot, isReady, lowest, State, place, setCells, executeGate, executeGates, opening}
 use Rattle.rules.specs.Mapping.{sequenceFrom, mappedBy}
 use Rattle.rules.proofs.Laws.{no-way, bind-good}
-use Rattle.claims.proofs.Answers.{good-same, from-bind}
+use Rattle.rules.proofs.Answers.{good-same, from-bind}
 use Rattle.claims.proofs.Executing.{gate-cases}
 use Rattle.claims.proofs.Opened.{ready-first}
 

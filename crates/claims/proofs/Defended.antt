@@ -15,7 +15,7 @@ use Rattle.rules.specs.Book.{checkedText}
 use Rattle.rules.specs.Calls.{Outcome, checkOutcome, simulateOutcome, evaluateOutcome}
 use Rattle.rules.proofs.Laws.{bind-good}
 use Rattle.claims.specs.Defended.{RunsRight, Defended}
-use Rattle.claims.proofs.EachLine.{each-at}
+use Rattle.rules.proofs.Lists.{each-at}
 use Rattle.claims.proofs.Stays.{run-ends, run-length, run-stays}
 use Rattle.claims.proofs.Sound.{Checked, checked-good, inputs-stay, places-hold}
 use Rattle.claims.proofs.ReadsWell.{ReadSequence, netlist-ordered, sequence-read}
@@ -71,7 +71,7 @@ module _ (netlist sequence : List ℕ) (N : Netlist) (S : Sequence) (n : ℕ) (r
           rw (run-ends budget is row ends) (places-hold N S n row c (netlist-ordered form01 netlist N readN) room places-count long k hk)
 
       in-row : (k : ℕ) → k < length (N .outputs) → getD (S .places) k 0 < length row
-      in-row k hk = rw long (each-at (λ p. p < S .row) 0 (S .places) (r .inRow) k (omega (arith, places-count)))
+      in-row k hk = rw long (each-at (λ _ p. p < S .row) 0 (S .places) 0 (r .inRow) k (omega (arith, places-count)))
 
 pub defended : Defended
 unfolding checkOutcome checkedText

@@ -14,7 +14,7 @@ use Rattle.rules.specs.Refusals.{Res, good, refused, refuse}
 use Rattle.rules.specs.Mapping.{mappedText}
 use Rattle.rules.specs.Calls.{Outcome, delivered, mapOutcome}
 use Rattle.rules.proofs.Laws.{no-way, by-pick}
-use Rattle.claims.proofs.Answers.{good-same, refused-same}
+use Rattle.rules.proofs.Answers.{good-same, refused-same}
 use Rattle.claims.proofs.Texts.{Mapped, text-mapped, form01-fits}
 
 -- a text that was delivered stands first in the buffer

@@ -14,10 +14,10 @@ use Rattle.rules.specs.Netlist.{Netlist, operandsOf}
 use Rattle.rules.specs.Weight.{gateOperands}
 use Rattle.rules.specs.Cells.{Slot, blank, ready, isReady, lowest, State, place, setCells, inReady, afterSet, inLowest, executeGate, executeGates}
 use Rattle.rules.proofs.Laws.{no-way, bind-good, cons-more, cons-self}
-use Rattle.claims.proofs.Answers.{good-same}
-use Rattle.claims.proofs.Lists.{mem-keep}
+use Rattle.rules.proofs.Answers.{good-same}
+use Rattle.rules.proofs.Lists.{mem-keep}
 use Rattle.claims.proofs.Visits.{Runs}
-use Rattle.claims.proofs.Reading.{Gate}
+use Rattle.rules.proofs.Reading.{Gate}
 use Rattle.claims.proofs.Whole.{gateOperandsOf}
 use Rattle.claims.proofs.Slots.{lowest-ready}
 use Rattle.claims.proofs.Served.{present}

@@ -11,8 +11,8 @@ use Rattle.rules.specs.Netlist.{Netlist, operandsOf}
 use Rattle.rules.specs.Sequence.{Instruction, Set, Nor}
 use Rattle.rules.specs.Cells.{Slot, blank, ready, keeps, cellOf, State, place, setCells}
 use Rattle.rules.proofs.Laws.{no-way, or-none, cons-cases, cons-more, cons-self}
-use Rattle.claims.proofs.Lists.{absent, asc-low, asc-rest, Each, each-snoc}
-use Rattle.claims.proofs.Reading.{Well, WellGate, well-gate}
+use Rattle.rules.proofs.Lists.{absent, asc-low, asc-rest, Each, each-snoc}
+use Rattle.rules.proofs.Reading.{Well, WellGate, well-gate}
 use Rattle.claims.proofs.Slots.{known, cells-mem}
 use Rattle.claims.proofs.Executing.{Turn}
 use Rattle.claims.proofs.Keeping.{Kept, in-row, operand-kept, Sparing}

@@ -1,4 +1,3 @@
-pub mod EachLine
 pub mod Table
 pub mod Fits
 pub mod Stays
@@ -8,9 +7,6 @@ pub mod Outcomes
 pub mod Defended
 pub mod Tight
 pub mod ShutOut
-pub mod Answers
-pub mod Lists
-pub mod Reading
 pub mod Visits
 pub mod Whole
 pub mod Once
@@ -38,3 +34,5 @@ pub mod TwiceAtMost
 pub mod Room
 pub mod Numbers
 pub mod NoRoomExactly
+pub mod Demand2
+pub mod Demand3

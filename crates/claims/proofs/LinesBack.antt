@@ -9,7 +9,7 @@ use Rattle.rules.specs.Refusals.{Res, good, _>>=_}
 use Rattle.rules.specs.Lines.{line}
 use Rattle.rules.specs.Netlist.{lines}
 use Rattle.rules.specs.Sequence.{texts}
-use Rattle.claims.proofs.Lists.{Each}
+use Rattle.rules.proofs.Lists.{Each}
 
 -- a thing's text is one line, which a rule reads as that thing
 pub record Reads {A : Type 0} (F : Form) (rule : List ℕ → Res A) (text : A → List ℕ) (a : A) : Type 0 where

@@ -11,8 +11,8 @@ use Rattle.rules.specs.Sequence.{Sequence, SequenceHead, sequenceHeadOf, instru
 use Rattle.rules.specs.Calls.{checkOutcome}
 use Rattle.rules.proofs.Laws.{then-good}
 use Rattle.claims.specs.Passes.{MappedPasses, HeadCounts}
-use Rattle.claims.proofs.Answers.{good-same, from-bind}
-use Rattle.claims.proofs.Reading.{lines-read}
+use Rattle.rules.proofs.Answers.{good-same, from-bind}
+use Rattle.rules.proofs.Reading.{lines-read}
 use Rattle.claims.proofs.Delivered.{map-answered}
 
 pub mapped-passes : MappedPasses

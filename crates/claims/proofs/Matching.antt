@@ -13,8 +13,8 @@ use Rattle.rules.specs.Basics.{pick, any, ascending, sameList, insert, sort}
 use Rattle.rules.specs.Netlist.{Netlist, operandsOf, twins}
 use Rattle.rules.specs.Book.{gateWith, gateOn}
 use Rattle.rules.proofs.Laws.{no-way, and-true, or-false, sameList-eq, sameList-refl}
-use Rattle.claims.proofs.Lists.{absent, any-false}
-use Rattle.claims.proofs.Reading.{Well, Gate, well-gate}
+use Rattle.rules.proofs.Lists.{absent, any-false}
+use Rattle.rules.proofs.Reading.{Well, Gate, well-gate}
 
 sort-ascending : (l : List ℕ) → ascending l ≡ true → sort l ≡ l
 unfolding ascending sort insert pick

@@ -18,8 +18,8 @@ use Rattle.rules.specs.Cells.{State, executeGates, allSpent, opening}
 use Rattle.rules.specs.Mapping.{mappedBy, mapped, mappedText}
 use Rattle.rules.proofs.Laws.{no-way}
 use Rattle.claims.specs.NoRoom.{Stuck, NoRoomExactly, NoRoomOnly}
-use Rattle.claims.proofs.Answers.{good-same, refused-bind, refused-require}
-use Rattle.claims.proofs.Lists.{within-true, within-holds}
+use Rattle.rules.proofs.Answers.{good-same, refused-bind, refused-require}
+use Rattle.rules.proofs.Lists.{within-true, within-holds}
 use Rattle.claims.proofs.Keeping.{allSpent-sparing}
 use Rattle.claims.proofs.Room.{Met, met-refused, refused-met}
 use Rattle.claims.proofs.Numbers.{netlist-refuses}

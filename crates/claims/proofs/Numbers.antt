@@ -15,7 +15,7 @@ use Rattle.rules.specs.Refusals.{Res, good, refused, refuse, _>>=_, _>>_, requi
 use Rattle.rules.specs.Lines.{isLine, firstLine, line, nothing, numbers, fields}
 use Rattle.rules.specs.Netlist.{Netlist, due, Head, headOf, gateOf, outputOf, lines, netlistLines, allUsed, twins, wellFormed, netlistOf}
 use Rattle.rules.proofs.Laws.{no-way, by-pick}
-use Rattle.claims.proofs.Answers.{refused-same}
+use Rattle.rules.proofs.Answers.{refused-same}
 
 -- what is refused is refused with 1 to 7
 abbrev pub Refuses : {A : Type 0} → Res A → Type 0

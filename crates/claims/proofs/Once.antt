@@ -12,9 +12,9 @@ use Rattle.rules.specs.Basics.{mem, repeats}
 use Rattle.rules.specs.Netlist.{Netlist}
 use Rattle.rules.specs.Order.{visitOrder, order}
 use Rattle.rules.proofs.Laws.{no-way, or-none, mem-append, mem-one, cons-cases, cons-more, cons-self, mem-nil, snoc-more, snoc-self}
-use Rattle.claims.proofs.Lists.{absent}
+use Rattle.rules.proofs.Lists.{absent}
 use Rattle.claims.proofs.Visits.{Runs}
-use Rattle.claims.proofs.Reading.{Well}
+use Rattle.rules.proofs.Reading.{Well}
 use Rattle.claims.proofs.Whole.{order-runs, order-gates, order-all}
 
 runs-new : (ops : ℕ → List ℕ) (d l : List ℕ) (x : ℕ) → Runs ops d l → mem x d ≡ true → mem x l ≡ true → ⊥

@@ -7,9 +7,9 @@ use Rattle.rules.specs.Form.{form01}
 use Rattle.rules.specs.Netlist.{Netlist, gateSignals}
 use Rattle.rules.specs.Order.{visitOrder, order}
 use Rattle.claims.specs.TrueOrder.{TrueOrder, OrderIsTrue}
-use Rattle.claims.proofs.Lists.{same-test, upto-mem, upto-in}
+use Rattle.rules.proofs.Lists.{same-test, upto-mem, upto-in}
 use Rattle.claims.proofs.Visits.{Runs, runs-before}
-use Rattle.claims.proofs.Reading.{Well, netlist-read}
+use Rattle.rules.proofs.Reading.{Well, netlist-read}
 use Rattle.claims.proofs.Whole.{order-runs, order-gates, order-all, order-operand}
 use Rattle.claims.proofs.Once.{runs-once, order-length}
 

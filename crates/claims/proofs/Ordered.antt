@@ -12,9 +12,9 @@ use Rattle.rules.specs.Netlist.{Netlist, operandsOf, gateSignals}
 use Rattle.rules.specs.Weight.{gateOperands}
 use Rattle.rules.proofs.Laws.{no-way, or-false, or-right, cons-cases, cons-self, mem-append, mem-nil}
 use Rattle.claims.specs.TrueOrder.{TrueOrder}
-use Rattle.claims.proofs.Lists.{absent, keep-mem, upto-mem, upto-in}
+use Rattle.rules.proofs.Lists.{absent, keep-mem, upto-mem, upto-in}
 use Rattle.claims.proofs.Visits.{Runs}
-use Rattle.claims.proofs.Reading.{Gate}
+use Rattle.rules.proofs.Reading.{Gate}
 use Rattle.claims.proofs.Whole.{gateOperandsOf}
 
 -- what stands in a list without repetition does not stand before itself

@@ -12,7 +12,7 @@ use Rattle.rules.specs.Refusals.{good}
 use Rattle.rules.specs.Lines.{line, bytesOf, written}
 use Rattle.rules.specs.Sequence.{Instruction, Set, Nor, setOf, norOf, instructionOf, placeOf, instructionText, placeText}
 use Rattle.rules.proofs.Laws.{cons-cases, cons-self, cons-more, mem-nil}
-use Rattle.claims.proofs.Lists.{all-of, asc-few, Each}
+use Rattle.rules.proofs.Lists.{all-of, asc-few, Each}
 use Rattle.claims.proofs.Fine.{FineSet, FineNor, Fine}
 use Rattle.claims.proofs.ReadBack.{Below, line-back}
 use Rattle.claims.proofs.Bytes.{bytes, holding, numbers-back, place-back, bytes-length, bytes-below}

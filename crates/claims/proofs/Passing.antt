@@ -17,8 +17,8 @@ use Rattle.rules.specs.Mapping.{sequenceFrom, mappedBy}
 use Rattle.rules.specs.Book.{Cell, unknown, ready as set-ready, holds, isHolding, placed, checked}
 use Rattle.rules.proofs.Laws.{no-way, cons-more, cons-self, or-right}
 use Rattle.claims.specs.TrueOrder.{TrueOrder}
-use Rattle.claims.proofs.Answers.{good-same, from-bind}
-use Rattle.claims.proofs.Reading.{Well}
+use Rattle.rules.proofs.Answers.{good-same, from-bind}
+use Rattle.rules.proofs.Reading.{Well}
 use Rattle.claims.proofs.Ordered.{true-runs, true-gates, true-all}
 use Rattle.claims.proofs.Slots.{known, cell-at, cells-mem}
 use Rattle.claims.proofs.Served.{present, released-output}

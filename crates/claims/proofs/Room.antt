@@ -11,7 +11,7 @@ use Rattle.rules.specs.Refusals.{good, refused, refuse, _>>=_}
 use Rattle.rules.specs.Netlist.{Netlist}
 use Rattle.rules.specs.Cells.{Slot, blank, ready, isReady, lowest, State, setCells, inReady, afterSet, inLowest, executeGate, executeGates}
 use Rattle.rules.proofs.Laws.{no-way, cons-self}
-use Rattle.claims.proofs.Answers.{good-same, from-bind, refused-bind}
+use Rattle.rules.proofs.Answers.{good-same, from-bind, refused-bind}
 use Rattle.claims.proofs.Slots.{lowest-found, setAll-at}
 use Rattle.claims.proofs.Keeping.{Sparing}
 

@@ -20,11 +20,15 @@ use Rattle.claims.specs.Defended.{Honoured}
 use Rattle.claims.specs.Wrong.{answersNine, passesAll, refusesAll, givesZero, leavesRow, atOnce, reportsBudget}
 use Rattle.claims.specs.ShutOut.{OursMeet, ShutOutBy2, ShutOutBy3, ShutOut}
 use Rattle.claims.proofs.Defended.{defended}
+use Rattle.claims.proofs.MappedPasses.{mapped-passes}
 
 pub ours-meet : OursMeet
 ours-meet = record {
   demand2 = record { map = λ row text out. refl; evaluate = λ text inputs out. refl; check = λ netlist sequence. refl; simulate = λ text row budget. refl };
-  defended = defended;
+  demand3 = record {
+    defended = defended;
+    mapped-pass = λ row text out n e. let p = mapped-passes row text out n e in (length (p .0 .instructions), p .2);
+  };
 }
 
 -- ---- witnesses, by computing

@@ -14,7 +14,7 @@ use lib.Seq.{getD-set-same, getD-set-other, lt-length-set}
 use Rattle.rules.specs.Basics.{pick, mem, ascending, setAll}
 use Rattle.rules.specs.Cells.{Slot, blank, ready, spent, keeps, isReady, isSpent, isKeeping, those, lowest, orZero, cellOf}
 use Rattle.rules.proofs.Laws.{no-way, by-pick, cons-cases, cons-more, cons-self, mem-nil}
-use Rattle.claims.proofs.Lists.{asc-cons}
+use Rattle.rules.proofs.Lists.{asc-cons}
 
 -- what is no blank lies in the row
 pub known : (l : List Slot) (c : ℕ) (x : Slot) → getD l c blank ≡ x → (x ≡ blank → ⊥) → c < length l

@@ -18,7 +18,7 @@ use Rattle.rules.specs.Values.{nor, table, values}
 use Rattle.rules.specs.Device.{run}
 use Rattle.rules.specs.Book.{Cell, unknown, ready, holds, firstBook, gateWith, steps, isHolding, placed, checked}
 use Rattle.rules.proofs.Laws.{no-way, bind-good, require-good, and-true, gateWith-spec}
-use Rattle.claims.proofs.EachLine.{Each}
+use Rattle.rules.proofs.Lists.{Each}
 use Rattle.claims.proofs.Table.{Below, table-keeps, values-spec}
 use Rattle.claims.proofs.Fits.{Fits, steps-fit}
 use Rattle.claims.proofs.Stays.{run-stays, steps-spare}

@@ -12,7 +12,7 @@ use lib.Seq.{getD-append-seam}
 use Rattle.rules.specs.Basics.{pick, all, insert, sort}
 use Rattle.rules.specs.Values.{nor, table}
 use Rattle.rules.proofs.Laws.{by-pick, and-true}
-use Rattle.claims.proofs.EachLine.{Each}
+use Rattle.rules.proofs.Lists.{Each}
 
 -- every operand is below n
 abbrev pub Below : ℕ → List ℕ → Type 0

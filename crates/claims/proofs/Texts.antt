@@ -16,9 +16,9 @@ use Rattle.rules.specs.Cells.{allSpent}
 use Rattle.rules.specs.Order.{order}
 use Rattle.rules.specs.Mapping.{mapped, mappedText}
 use Rattle.rules.specs.Book.{checked, checkedText}
-use Rattle.claims.proofs.Answers.{good-same, from-bind, from-require}
-use Rattle.claims.proofs.Lists.{within-true}
-use Rattle.claims.proofs.Reading.{Sized, netlist-read}
+use Rattle.rules.proofs.Answers.{good-same, from-bind, from-require}
+use Rattle.rules.proofs.Lists.{within-true}
+use Rattle.rules.proofs.Reading.{Sized, netlist-read}
 use Rattle.claims.proofs.OrderIsTrue.{well-ordered}
 use Rattle.claims.proofs.Keeping.{allSpent-sparing}
 use Rattle.claims.proofs.Passing.{Right, passing}

@@ -3,7 +3,7 @@
 use native.Mathlib.Omega.{arith}
 use mathlib.Core.Path.{sym, _∙_}
 use Rattle.claims.specs.Twice.{TwiceAtMost}
-use Rattle.claims.proofs.Answers.{good-same}
+use Rattle.rules.proofs.Answers.{good-same}
 use Rattle.claims.proofs.Delivered.{map-answered}
 
 pub twice-at-most : TwiceAtMost

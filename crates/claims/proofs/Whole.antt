@@ -13,9 +13,9 @@ use Rattle.rules.specs.Netlist.{Netlist, operandsOf, gateSignals, isRead}
 use Rattle.rules.specs.Weight.{gateOperands, goesBefore, insertBy, highToLow, weightIn, weights}
 use Rattle.rules.specs.Order.{roots, visitOrder, visit, order}
 use Rattle.rules.proofs.Laws.{by-pick, mem-nil}
-use Rattle.claims.proofs.Lists.{keep-mem, mem-keep, any-at, upto-mem, upto-in}
+use Rattle.rules.proofs.Lists.{keep-mem, mem-keep, any-at, upto-mem, upto-in}
 use Rattle.claims.proofs.Visits.{Runs, runs-mem, Visited, wider, each-visited, visit-visited}
-use Rattle.claims.proofs.Reading.{Well, Gate, well-gate}
+use Rattle.rules.proofs.Reading.{Well, Gate, well-gate}
 
 abbrev pub gateOperandsOf : Netlist → ℕ → List ℕ
 gateOperandsOf N g = gateOperands (N .inputs) (operandsOf N g)

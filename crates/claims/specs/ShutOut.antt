@@ -3,14 +3,13 @@
 use Prim.Native.Nat.{ℕ}
 use mathlib.Core.List.{List}
 use Rattle.rules.specs.declared.Refusal.{Refusal}
-use Rattle.claims.specs.Defended.{DefendedBy}
 use Rattle.claims.specs.Demands.{Demand2, Demand3, ours}
 use Rattle.claims.specs.Wrong.{withMap, withEvaluate, withCheck, withSimulate, answersNine, passesAll, refusesAll, givesZero, leavesRow, atOnce, reportsBudget}
 
--- What document 01 says meets demand 2, and the defended half of demand 3.
+-- What document 01 says meets both.
 pub record OursMeet : Type 0 where
   pub demand2 : Demand2 ours
-  pub defended : DefendedBy (ours .check) (ours .simulate) (ours .evaluate)
+  pub demand3 : Demand3 ours
 
 -- Demand 2 shuts out each.
 pub record ShutOutBy2 : Type 0 where

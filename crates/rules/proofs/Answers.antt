@@ -17,6 +17,11 @@ pub from-bind : {A B : Type 0} (P : Type 0) (r : Res A) (k : A → Res B) (y : B
 unfolding _>>=_
 from-bind P (good a) k y e f = f a refl e
 from-bind P (refused n) k y e f = absurd (no-way (cc))
+
+pub from-then : {A B : Type 0} (P : Type 0) (r : Res A) (k : Res B) (y : B) → (r >> k) ≡ good y → (k ≡ good y → P) → P
+unfolding _>>_
+from-then P (good a) k y e f = f e
+from-then P (refused n) k y e f = absurd (no-way (cc))
 
 pub from-require : {B : Type 0} (P : Type 0) (t : Bool) (n : ℕ) (k : Res B) (y : B) → (require t n >> k) ≡ good y → (t ≡ true → k ≡ good y → P) → P
 unfolding _>>_ require

@@ -8,14 +8,14 @@ use mathlib.Core.List.{List, [], _∷_, _++_, append-assoc, append-nil}
 use lib.Dec.{ltb, leb}
 use borrow.Author.Tests.{ltb-true, leb-true, not-true}
 use lib.ListN.{getD, length}
 use Rattle.rules.specs.Basics.{within, all, mem, repeats, ascending}
 use Rattle.rules.specs.Form.{Form, two}
 use Rattle.rules.specs.Refusals.{Res, good, orRefuse}
 use Rattle.rules.specs.Lines.{line, nothing, numbers, fields}
 use Rattle.rules.specs.Netlist.{Netlist, operandsOf, due, Head, headOf, gateOf, outputOf, Part, lines, netlistLines, allUsed, twins, wellFormed, netlistOf}
 use Rattle.rules.proofs.Laws.{bind-good, then-good, and-true}
-use Rattle.claims.proofs.Answers.{good-same, from-bind, from-require}
-use Rattle.claims.proofs.Lists.{within-true, all-mem, Each, each-at, each-mem}
+use Rattle.rules.proofs.Answers.{good-same, from-bind, from-require}
+use Rattle.rules.proofs.Lists.{within-true, all-mem, Each, each-at, each-mem}
 
 -- what was read line after line
 pub lines-read : {A : Type 0} (F : Form) (rule : ℕ → List ℕ → Res A) (Q : ℕ → A → Type 0) → ((own : ℕ) (bytes : List ℕ) (a : A) → rule own bytes ≡ good a → Q own a)
