@@ -3,7 +3,7 @@
 use Prim.Native.Nat.{ℕ, zero, suc, _+_, _-_, _<_, _≤_}
 use native.Mathlib.Omega.{arith}
 use mathlib.Core.Path.{_≡_, refl, sym, ap, _∙_, subst}
-use mathlib.Core.List.{List, []}
+use mathlib.Core.List.{List}
 use lib.ListN.{length}
 use borrow.Author.Tests.{eq-eqb, ne-eqb}
 use Rattle.rules.specs.Basics.{pick}
@@ -37,13 +37,16 @@ pub record Counted (text : List ℕ) (at n : ℕ) : Type 0 where
 
 pub counted-start : (text : List ℕ) → Counted text 0 0
 unfolding framesIn
-counted-start text = let z : length text - 0 ≡ length text = omega arith in record { low = omega arith; high = omega arith; left = rw z (omega arith) }
+counted-start text =
+    let z : length text - 0 ≡ length text = omega arith in
+    record { low = omega arith; high = omega arith; left = rw z (omega arith) }
 
 none-from : (most : ℕ) (text : List ℕ) (at : ℕ) → length (frameOutcome text at) ≡ 0 → framesFrom most text at ≡ 0
 unfolding framesFrom pick
 none-from zero text at e = refl
 none-from (suc most) text at e = rw (eq-eqb (length (frameOutcome text at)) 0 e)
 
+-- one turn, by the piece that was read at the place
 module _ {text : List ℕ} {at n : ℕ} (c : Counted text at n) (p : Piece) (is : p ≡ pieceAt text at) where
   pub counted-end : p .width ≡ 0 → n ≡ framesIn text
   unfolding pieceAt

@@ -1,13 +1,14 @@
 -- The frame at a place and the place after it, by what the line reader answers there.
 -- Assumes nothing.
-use Prim.Native.Nat.{ℕ, _+_, _-_, _<_, _≤_}
+use Prim.Native.Nat.{ℕ, _+_, _-_, _<_}
 use native.Mathlib.Omega.{arith}
 use native.Mathlib.Decide.{decLt}
 use mathlib.Core.Path.{_≡_, refl, sym, ap, _∙_}
 use mathlib.Core.Bool.{Bool, true, false}
 use mathlib.Core.List.{List, []}
-use lib.ListN.{length, take, drop, drop-of-length-le}
-use borrow.Author.Tests.{lt-leb}
+use lib.ListN.{length, take, drop, drop-of-length-le, length-take, length-drop}
+use denote.Ref.{RefT, now}
+use borrow.Author.Tests.{lt-leb, ne-eqb}
 use Rattle.rules.specs.declared.Refusal.{Refusal}
 use Rattle.rules.specs.Basics.{pick}
 use Rattle.rules.specs.Form.{form01}
@@ -17,7 +18,12 @@ use Rattle.rules.proofs.Laws.{no-way}
 use Rattle.lines.specs.declared.Line.{Line}
 use Rattle.lines.specs.declared.Line.the-variants.{Frame, Refused}
 use Rattle.lines.specs.Line.{lineAt}
+use Rattle.frames.specs.Reader.{startOf, spotIn}
 use Rattle.lines.proofs.Meaning.{Fits, frame-fits}
+
+-- a part that starts where the frame's part does stands where it stands
+pub stands : (text : RefT (List ℕ)) {k : ℕ} (at : ℕ) → k ≡ startOf (now text) at → (text .ptr .0, k + text .ptr .1) ≡ spotIn text at
+stands text at e = ap (λ (k : ℕ). (text .ptr .0, k + text .ptr .1)) e
 
 -- where the line reader refuses, no good line stands
 no-line : (text : List ℕ) (at : ℕ) (r : Refusal) → lineAt text at ≡ Refused r → isLine form01 (drop at text) ≡ false
@@ -47,6 +53,13 @@ module _ (text : List ℕ) (at : ℕ) (l : Line) (read : l ≡ lineAt text at) w
     unfolding frameOutcome frameAt pick
     frame-there = let z : at + n - at ≡ n = omega arith in rw (fits .good, fits .is, z)
 
+    -- where it starts
+    pub start-there : at ≡ startOf text at
+    unfolding startOf pick
+    start-there =
+        let z : length (frameOutcome text at) ≡ n = ap length (sym frame-there) ∙ simp (length-take, length-drop) (omega (arith, fits .inside)) in
+        rw (z, ne-eqb n 0 (λ e. omega (arith, fits .least)))
+
     pub place-past : at + n + 1 ≡ placeOutcome text at
     unfolding placeOutcome placeAfter pick
     place-past = rw (fits .good, fits .is)
@@ -62,6 +75,10 @@ module _ (text : List ℕ) (at : ℕ) (l : Line) (read : l ≡ lineAt text at) w
     -- what `&text[end..]` is, at the text's end
     pub frame-end : take (length text - length text) (drop (length text) text) ≡ frameOutcome text at
     frame-end = let z : length text - length text ≡ 0 = omega arith in rw (z) frame-empty
+
+    pub start-end : length text ≡ startOf text at
+    unfolding startOf pick
+    start-end = rw (← frame-empty)
 
     pub place-stays : at ≡ placeOutcome text at
     unfolding placeOutcome placeAfter pick

@@ -1,7 +1,7 @@
 -- What the frame reader holds, gives and becomes, in terms of document 01's frame reader.
 -- Assumes nothing.
-use Prim.Native.Nat.{ℕ, zero, suc}
-use mathlib.Core.List.{List, []}
+use Prim.Native.Nat.{ℕ, zero, suc, _+_}
+use mathlib.Core.List.{List}
 use lib.Dec.{eqb}
 use lib.ListN.{length}
 use denote.Ref.{RefT, now}
@@ -10,13 +10,25 @@ use Rattle.rules.specs.Calls.{frameOutcome, placeOutcome}
 use Rattle.frames.specs.declared.Frames.{Frames}
 use Rattle.frames.specs.declared.Piece.{Piece}
 
+-- where the frame's part begins: at its place, or at the text's end where the part is empty
+unfoldable pub startOf : List ℕ → ℕ → ℕ
+unfolding pick
+startOf text at = pick (eqb (length (frameOutcome text at)) 0) (length text) at
+
+-- the part is the caller's own text there: the same block of memory, so many bytes further on
+abbrev pub spotIn : RefT (List ℕ) → ℕ → ℕ × ℕ
+spotIn text at = (text .ptr .0, startOf (now text) at + text .ptr .1)
+
 -- a reader at the text's start
 abbrev pub atStart : RefT (List ℕ) → Frames
 atStart text = record { text = text; at = 0 }
 
--- the digits that a reader gives next
+-- the digits that a reader gives next, and where they stand
 abbrev pub gives : Frames → List ℕ
 gives r = frameOutcome (now (r .text)) (r .at)
+
+abbrev pub spot : Frames → ℕ × ℕ
+spot r = spotIn (r .text) (r .at)
 
 -- the reader afterwards: the same text, at the place after the frame or where it stays
 abbrev pub moved : Frames → Frames

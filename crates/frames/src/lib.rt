@@ -2,7 +2,7 @@
 // any slice and any place; the functions over the struct only take it apart.
 ghost use mathlib.Core.Path.{_≡_};
 ghost use Rattle.rules.specs.Calls.{frameOutcome, placeOutcome};
-ghost use Rattle.frames.specs.Reader.{atStart, gives, moved, pieceAt, framesIn};
+ghost use Rattle.frames.specs.Reader.{spotIn, atStart, gives, spot, moved, pieceAt, framesIn};
 use lines::Line;
 
 // The text and the place of the next frame.
@@ -13,7 +13,7 @@ pub struct Frames<'a> {
 
 // The digits of the frame at a place, a part of the text; the empty part at the text's end where no good line stands there.
 pub fn frame_at(text: &[u8], at: usize) -> &[u8]
-    ensures { λ r. ⌜ now r ≡ frameOutcome (now (text .entry)) at ⌝ }
+    ensures { λ r. ⌜ (now r ≡ frameOutcome (now (text .entry)) at) × (r .ptr ≡ spotIn (text .entry) at) ⌝ }
 {
     let l = lines::read_line(text, at);
     let Line::Frame(n) = l else {
@@ -44,7 +44,7 @@ pub fn new<'a>(text: &'a [u8]) -> Frames<'a>
 
 // The next frame's digits. The reader moves to the place after it, or stays.
 pub fn next<'s, 'a>(r: &'s mut Frames<'a>) -> &'a [u8]
-    ensures { λ part. ⌜ (now part ≡ gives (now (r .entry))) × (now (r .exit) ≡ moved (now (r .entry))) ⌝ }
+    ensures { λ part. ⌜ ((now part ≡ gives (now (r .entry))) × (part .ptr ≡ spot (now (r .entry)))) × (now (r .exit) ≡ moved (now (r .entry))) ⌝ }
 {
     let text = r.text;
     let at = r.at;

@@ -1,3 +1,5 @@
+-- `frames::count` meets its contract: the frames before the place are counted, and the place moves on within the text.
+-- Assumes nothing.
 use Prim.Native.Nat.{_-_}
 use native.Mathlib.Omega.{arith}
 use lib.ListN.{length}
@@ -5,9 +7,6 @@ use borrow.Author.Needs.{needs}
 use Rattle.frames.proofs.Counting.{Counted, counted-start, counted-room, counted-less, counted-turn, counted-end}
 use Rattle.frames.proofs.count.Statement.{statement}
 use Rattle.frames.proofs.count.Tie as tie
-use Rattle.frames.proofs.count.Reads as reads
-use Rattle.frames.proofs.count.Lts as lts
-use Rattle.frames.proofs.piece_at.Reads as piece-at-reads
 
 abbrev Inv-loop : tie.InvT-loop
 Inv-loop text at₀ n₀ at n = Counted text at n
@@ -15,27 +14,21 @@ Inv-loop text at₀ n₀ at n = Counted text at n
 abbrev μ-loop : tie.MeasureT-loop
 μ-loop text at₀ n₀ at n = length text - at
 
--- src/lib.rt:79:5
 loop-holds : tie.Need-loop-holds Inv-loop μ-loop
 loop-holds c = counted-start _
 
--- src/lib.rt:80:13
 piece-at-requires : tie.Need-piece-at-requires Inv-loop μ-loop
 piece-at-requires c κs = search needs
 
--- src/lib.rt:82:13
 returns : tie.Need-returns Inv-loop μ-loop
 returns c = counted-end (c .before .before .before .loop .inv) _ (c .before .before .piece-at .ensures) (c .if1 .taken)
 
--- src/lib.rt:84:9
 add-n : tie.Need-add-n Inv-loop μ-loop
 add-n c = omega (arith, counted-room (c .before .before .before .loop .inv) _ (c .before .before .piece-at .ensures) (c .if1 .left))
 
--- src/lib.rt:79:5
 loop-less : tie.Need-loop-less Inv-loop μ-loop
 loop-less c = counted-less (c .before .before .before .loop .inv) _ (c .before .before .piece-at .ensures) (c .if1 .left)
 
--- src/lib.rt:79:5
 loop-again : tie.Need-loop-again Inv-loop μ-loop
 loop-again c = counted-turn (c .before .before .before .loop .inv) _ (c .before .before .piece-at .ensures) (c .if1 .left)
 

@@ -1,5 +1,7 @@
--- `frames::next` meets its contract: a walk of its MIR, by hand. The borrow of the reader is opened, the slice and the number are read out of its cell, `place_after` and `frame_at` are called on them, the new number is stored, and the borrow is closed at the reader with that number. The part of the text is handed back at the text's own lifetime.
--- The reader is Copy: of what it owns, a copy of what text owns goes to each callee, beside the token of the text's lifetime, which comes back. The cell behind the reference is raw: it is turned to the MIR's type, lifetimes erased, for the reads and the store, and back before the borrow is closed.
+-- `frames::next` meets its contract: a walk of its MIR, by hand. The borrow of the reader is opened, its text and place are read, `place_after`
+-- and `frame_at` are called on them, the new place is stored, and the borrow is closed. The part is handed back at the text's own lifetime.
+-- The reader is Copy: a copy of what text owns goes to each callee, beside the token of the text's lifetime, which comes back. The cell behind the
+-- reference is turned to the MIR's type, lifetimes erased, for the reads and the store, and back before the borrow is closed.
 -- All that the proof knows of `place_after` and `frame_at` is that each meets its contract. Assumes nothing.
 use mathlib.Core.Path.{_≡_, refl, ap}
 use Prim.Native.Nat.{ℕ, _<_, _^_}
@@ -44,7 +46,7 @@ use denote.Triple.Spec.{Meets, tripleOf}
 use denote.Triple.Table.{entered, cited}
 use denote.Triple.Walked.{says, Stays, stay-ref, walkOf, goes-ref, Walks, ends-at, walked, walk-meets}
 use denote.Triple.Clauses.{ensured, lasts}
-use Rattle.frames.specs.Reader.{gives, moved}
+use Rattle.frames.specs.Reader.{gives, spot, moved}
 use Rattle.frames.specs.declared.Frames.{Frames}
 use Rattle.frames.proofs.Frames as T
 use Rattle.frames.proofs.Frames.Laws as T′
@@ -113,11 +115,13 @@ module _ {M : Type 1} (𝓤 : URA M) (H : Heap 𝓤) (A : Atoms 𝓤) (W : Given
   abbrev v : Val
   v = sliceVal (h .text .ptr) (length (h .text .now))
 
+  -- the place afterwards
   abbrev there : ℕ
   there = moved h .at
 
-  abbrev found : List ℕ
-  found = gives h
+  -- what is said of the part s
+  abbrev Found : RefT (List ℕ) → Type 0
+  Found s = (now s ≡ gives h) × (s .ptr ≡ spot h)
 
   abbrev Post : Val → SProp 𝓤
   Post = walkOf 𝓤 H A next.ended stayed (next.clauses 𝓤 H A at-mem run) .post (((κ, (κ′, tt)), (q, (q′, tt)), bounds, x, at), tt)
@@ -126,40 +130,36 @@ module _ {M : Type 1} (𝓤 : URA M) (H : Heap 𝓤) (A : Atoms 𝓤) (W : Given
   abbrev passed : Vals after.signature (κ′, tt)
   passed = (v ∷ [], (vint w64 (h .at) ∷ [], tt))
 
-  abbrev to-after : After 𝓤 H A at-mem run .Ghost
-  to-after = (((κ′, tt), (q′, tt), tt, (h .text, (h .at, tt)), passed), tt)
+  abbrev Passed : Fml
+  Passed = owns (ShrSlice (named 0) κ′ u8 ∷ usize ∷ []) vd passed
 
-  abbrev to-part : Part 𝓤 H A at-mem run .Ghost
-  to-part = (((κ′, tt), (q′, tt), tt, (h .text, (h .at, tt)), passed), tt)
+  abbrev to : After 𝓤 H A at-mem run .Ghost
+  to = (((κ′, tt), (q′, tt), tt, vd, passed), tt)
 
   -- what the struct owns gives what a callee is passed, and is kept
-  apart : h .at < 2 ^ 64 → ent 𝓤 (sem 𝓤 H A (Own h)) (sep 𝓤 (sem 𝓤 H A (owns (ShrSlice (named 0) κ′ u8 ∷ usize ∷ []) (h .text, (h .at, tt)) passed)) (sem 𝓤 H A (Own h)))
+  apart : h .at < 2 ^ 64 → ent 𝓤 (sem 𝓤 H A (Own h)) (sep 𝓤 (sem 𝓤 H A Passed) (sem 𝓤 H A (Own h)))
   apart fits =
       qed W (‵ (Own h) ∷ []) ∵ use1 W (‵ (Own h) ⊛ ‵ (Own h)) (LL.copy D (T′.the-copy (α κ′)) 𝓤 H A W .twice h (T′.lowered h ∷ [])) $ split ! $
       use1 W (given (T′.lowered h ∷ [] ≡ T′.lowered h ∷ []) (‵ (all-own (D .parts) L vd))) (own-open 𝓤 H A W D L vd (T′.lowered h)) $ learn ! (λ _. use1 W (‵ (ownAt (D .parts) L 0 (h .text)) ⊛ ‵ (rest (D .parts) L 0 vd)) (own-out 𝓤 H A W (D .parts) L 0 vd) $ split ! $
       move ! (1 ∷ []) $ drop ! $ nothing ! $ owned ! usize (Is usize) (uint-makes 𝓤 H A W w64) (h .at) _ (refl, fits) $ fjoin ! $ move ! (1 ∷ 0 ∷ []) $ fjoin ! $ frame ! $ done !)
 
-  goes-after : h .at < 2 ^ 64 → ent 𝓤 (⋆ 𝓤 H A ((‵ (flft κ′ q′) ⊛ ‵ ftrue) ∷ ‵ (Own h) ∷ [])) (sep 𝓤 (After 𝓤 H A at-mem run .pre to-after) (sem 𝓤 H A (Own h)))
-  goes-after fits =
-      qed W ((‵ (flft κ′ q′) ⊛ ‵ ftrue) ∷ ‵ (Own h) ∷ []) ∵ move ! (1 ∷ []) $ use1 W (‵ (owns (ShrSlice (named 0) κ′ u8 ∷ usize ∷ []) (h .text, (h .at, tt)) passed) ⊛ ‵ (Own h)) (apart fits) $ split ! $ move ! (2 ∷ 0 ∷ []) $
-      use2 W (raw (After 𝓤 H A at-mem run .pre to-after)) (qed W ((‵ (flft κ′ q′) ⊛ ‵ ftrue) ∷ ‵ (owns (ShrSlice (named 0) κ′ u8 ∷ usize ∷ []) (h .text, (h .at, tt)) passed) ∷ []) ∵ join ! $ frame ! $ done !) $ frame ! $ done !
+  -- with the token of 'a that is what each callee asks
+  goes : h .at < 2 ^ 64 → ent 𝓤 (⋆ 𝓤 H A ((‵ (flft κ′ q′) ⊛ ‵ ftrue) ∷ ‵ (Own h) ∷ [])) (sep 𝓤 (After 𝓤 H A at-mem run .pre to) (sem 𝓤 H A (Own h)))
+  goes fits =
+      qed W ((‵ (flft κ′ q′) ⊛ ‵ ftrue) ∷ ‵ (Own h) ∷ []) ∵ move ! (1 ∷ []) $ use1 W (‵ Passed ⊛ ‵ (Own h)) (apart fits) $ split ! $ move ! (2 ∷ 0 ∷ []) $
+      use2 W (raw (After 𝓤 H A at-mem run .pre to)) (qed W ((‵ (flft κ′ q′) ⊛ ‵ ftrue) ∷ ‵ Passed ∷ []) ∵ join ! $ frame ! $ done !) $ frame ! $ done !
 
-  goes-part : h .at < 2 ^ 64 → ent 𝓤 (⋆ 𝓤 H A ((‵ (flft κ′ q′) ⊛ ‵ ftrue) ∷ ‵ (Own h) ∷ [])) (sep 𝓤 (Part 𝓤 H A at-mem run .pre to-part) (sem 𝓤 H A (Own h)))
-  goes-part fits =
-      qed W ((‵ (flft κ′ q′) ⊛ ‵ ftrue) ∷ ‵ (Own h) ∷ []) ∵ move ! (1 ∷ []) $ use1 W (‵ (owns (ShrSlice (named 0) κ′ u8 ∷ usize ∷ []) (h .text, (h .at, tt)) passed) ⊛ ‵ (Own h)) (apart fits) $ split ! $ move ! (2 ∷ 0 ∷ []) $
-      use2 W (raw (Part 𝓤 H A at-mem run .pre to-part)) (qed W ((‵ (flft κ′ q′) ⊛ ‵ ftrue) ∷ ‵ (owns (ShrSlice (named 0) κ′ u8 ∷ usize ∷ []) (h .text, (h .at, tt)) passed) ∷ []) ∵ join ! $ frame ! $ done !) $ frame ! $ done !
+  said-after : (n : ℕ) → ent 𝓤 (ensured 𝓤 H A after.ended (after.clauses 𝓤 H A at-mem run) (κ′, tt) vd tt n) (fact 𝓤 (n ≡ there))
+  said-after n = exE 𝓤 _ (λ ws. snd∗ 𝓤 (sem 𝓤 H A (lasts after.ended (κ′, tt) vd ws)) (fact 𝓤 (n ≡ there)))
 
-  said-after : (n : ℕ) → ent 𝓤 (ensured 𝓤 H A after.ended (after.clauses 𝓤 H A at-mem run) (κ′, tt) (h .text, (h .at, tt)) tt n) (fact 𝓤 (n ≡ there))
-  said-after n = exE 𝓤 _ (λ ws. snd∗ 𝓤 (sem 𝓤 H A (lasts after.ended (κ′, tt) (h .text, (h .at, tt)) ws)) (fact 𝓤 (n ≡ there)))
-
-  said-part : (s : RefT (List ℕ)) → ent 𝓤 (ensured 𝓤 H A part.ended (part.clauses 𝓤 H A at-mem run) (κ′, tt) (h .text, (h .at, tt)) tt s) (fact 𝓤 (now s ≡ found))
-  said-part s = exE 𝓤 _ (λ ws. snd∗ 𝓤 (sem 𝓤 H A (lasts part.ended (κ′, tt) (h .text, (h .at, tt)) ws)) (fact 𝓤 (now s ≡ found)))
+  said-part : (s : RefT (List ℕ)) → ent 𝓤 (ensured 𝓤 H A part.ended (part.clauses 𝓤 H A at-mem run) (κ′, tt) vd tt s) (fact 𝓤 (Found s))
+  said-part s = exE 𝓤 _ (λ ws. snd∗ 𝓤 (sem 𝓤 H A (lasts part.ended (κ′, tt) vd ws)) (fact 𝓤 (Found s)))
 
   -- what text owns is kept, and at's facts are made anew
   again : (n : ℕ) → n < 2 ^ 64 → ent 𝓤 (sem 𝓤 H A (Own h)) (sem 𝓤 H A (Own (h′ n)))
   again n fits = qed W (‵ (Own h) ∷ []) ∵ owned ! usize (Is usize) (uint-makes 𝓤 H A W w64) n _ (refl, fits) $ move ! (1 ∷ 0 ∷ []) $ by ! (own-put 𝓤 H A W D L 1 vd n (T′.lowered h))
 
-  exits : (n : ℕ) (s : RefT (List ℕ)) (u : Val) → n ≡ there → now s ≡ found
+  exits : (n : ℕ) (s : RefT (List ℕ)) (u : Val) → n ≡ there → Found s
       → ent 𝓤 (⋆ 𝓤 H A (‵ (fobs γ (B κ′ .coded .code (h′ n))) ∷ ‵ (fbor κ (Body (mem (B κ′)) b o γ)) ∷ ‵ (flft κ q) ∷ (‵ (flft κ′ q′) ⊛ ‵ ftrue) ∷ ‵ (ShrSlice (named 0) κ′ u8 .own s (u ∷ [])) ∷ [])) (Post u)
   exits n s u e e′ =
       qed W (‵ (fobs γ (B κ′ .coded .code (h′ n))) ∷ ‵ (fbor κ (Body (mem (B κ′)) b o γ)) ∷ ‵ (flft κ q) ∷ (‵ (flft κ′ q′) ⊛ ‵ ftrue) ∷ ‵ (ShrSlice (named 0) κ′ u8 .own s (u ∷ [])) ∷ []) ∵
@@ -181,19 +181,19 @@ module _ {M : Type 1} (𝓤 : URA M) (H : Heap 𝓤) (A : Atoms 𝓤) (W : Given
         assigns ! (of-opd ! (load ! (from ! (hop ! (look ! 13 refl) (fld ! refl (stop !)))) (look-in ! 0 (sub ! 0 refl (whole !))))) (from ! (stop !)) (init ! 11 refl (tt, wt .1 .0)) $
         assigns ! (of-opd ! (load ! (from ! (hop ! (look ! 13 refl) (fld ! refl (stop !)))) (look-in ! 0 (sub ! 1 refl (whole !))))) (from ! (stop !)) (init ! 9 refl (tt, wt .1 .1 .0)) $
         -- `place_after`
-        move ! (5 ∷ 1 ∷ []) $ use2 W (raw (After 𝓤 H A at-mem run .pre to-after) ⊛ ‵ (Own h)) (goes-after (wt .1 .1 .0 .fits)) $ split ! $
-        calls-at ! fm (After 𝓤 H A at-mem run) known-after to-after (and-then ! (load ! (from ! (stop !)) (look ! 11 refl)) (and-then ! (load ! (from ! (stop !)) (look ! 9 refl)) (no-more !))) (λ u.
-        use1 W (later (some (λ (n : ℕ). ((‵ (flft κ′ q′) ⊛ ‵ ftrue) ⊛ ‵ (usize .own n (u ∷ []))) ⊛ raw (ensured 𝓤 H A after.ended (after.clauses 𝓤 H A at-mem run) (κ′, tt) (h .text, (h .at, tt)) tt n)))) (id⊢ 𝓤 _) $ await ! tt $ pick ! (λ n.
+        move ! (5 ∷ 1 ∷ []) $ use2 W (raw (After 𝓤 H A at-mem run .pre to) ⊛ ‵ (Own h)) (goes (wt .1 .1 .0 .fits)) $ split ! $
+        calls-at ! fm (After 𝓤 H A at-mem run) known-after to (and-then ! (load ! (from ! (stop !)) (look ! 11 refl)) (and-then ! (load ! (from ! (stop !)) (look ! 9 refl)) (no-more !))) (λ u.
+        use1 W (later (some (λ (n : ℕ). ((‵ (flft κ′ q′) ⊛ ‵ ftrue) ⊛ ‵ (usize .own n (u ∷ []))) ⊛ raw (ensured 𝓤 H A after.ended (after.clauses 𝓤 H A at-mem run) (κ′, tt) vd tt n)))) (id⊢ 𝓤 _) $ await ! tt $ pick ! (λ n.
         split ! $ move ! (1 ∷ []) $ use1 W (raw (fact 𝓤 (n ≡ there))) (said-after n) $ heard ! (n ≡ there) (λ e. split ! $ move ! (1 ∷ []) $
         -- [the number; the token of 'a; what a Frames owns; the reader's cell; the open borrow; obs; auth; true; _4; …; _3; …; _2; …; _1; …; room for _0; …]
         peeks ! usize (Is usize) (shows 𝓤 H A usize) n (u ∷ []) (λ is.
         land ! (from ! (stop !)) (init ! 8 refl (uint-lawful 𝓤 H A W w64 .typed n _ is .0)) $ rewrite ! 8 (λ (w : Val). ‵ (fat fullShare (tyInt w64) l₄ 0 w)) (ap only (is .0)) refl $
         assigns ! (of-opd ! (load ! (from ! (stop !)) (look ! 8 refl))) (from ! (hop ! (look ! 14 refl) (fld ! refl (stop !)))) (store-in ! 3 (sub ! 1 refl (whole !)) (tt, record { fits = is .1 })) $
         -- `frame_at`
-        drop ! $ use2 W (raw (Part 𝓤 H A at-mem run .pre to-part) ⊛ ‵ (Own h)) (goes-part (wt .1 .1 .0 .fits)) $ split ! $
-        calls-at ! fm (Part 𝓤 H A at-mem run) known-part to-part (and-then ! (load ! (from ! (stop !)) (look ! 11 refl)) (and-then ! (load ! (from ! (stop !)) (look ! 9 refl)) (no-more !))) (λ u′.
-        use1 W (later (some (λ (s : RefT (List ℕ)). ((‵ (flft κ′ q′) ⊛ ‵ ftrue) ⊛ ‵ (ShrSlice (named 0) κ′ u8 .own s (u′ ∷ []))) ⊛ raw (ensured 𝓤 H A part.ended (part.clauses 𝓤 H A at-mem run) (κ′, tt) (h .text, (h .at, tt)) tt s)))) (id⊢ 𝓤 _) $ await ! tt $ pick ! (λ s.
-        split ! $ move ! (1 ∷ []) $ use1 W (raw (fact 𝓤 (now s ≡ found))) (said-part s) $ heard ! (now s ≡ found) (λ e′. split ! $ move ! (1 ∷ []) $
+        drop ! $ use2 W (raw (Part 𝓤 H A at-mem run .pre to) ⊛ ‵ (Own h)) (goes (wt .1 .1 .0 .fits)) $ split ! $
+        calls-at ! fm (Part 𝓤 H A at-mem run) known-part to (and-then ! (load ! (from ! (stop !)) (look ! 11 refl)) (and-then ! (load ! (from ! (stop !)) (look ! 9 refl)) (no-more !))) (λ u′.
+        use1 W (later (some (λ (s : RefT (List ℕ)). ((‵ (flft κ′ q′) ⊛ ‵ ftrue) ⊛ ‵ (ShrSlice (named 0) κ′ u8 .own s (u′ ∷ []))) ⊛ raw (ensured 𝓤 H A part.ended (part.clauses 𝓤 H A at-mem run) (κ′, tt) vd tt s)))) (id⊢ 𝓤 _) $ await ! tt $ pick ! (λ s.
+        split ! $ move ! (1 ∷ []) $ use1 W (raw (fact 𝓤 (Found s))) (said-part s) $ heard ! (Found s) (λ e′. split ! $ move ! (1 ∷ []) $
         -- [the part; the token of 'a; what a Frames owns; the reader's cell; the open borrow; obs; auth; true; _4; …; _3; …; _2; …; _1; …; room for _0; …]
         peeks ! (ShrSlice (named 0) κ′ u8) (Is (ShrSlice (named 0) κ′ u8)) (shows 𝓤 H A (ShrSlice (named 0) κ′ u8)) s (u′ ∷ []) (λ is′.
         land ! (from ! (stop !)) (init ! 16 refl (shr-slice-lawful 𝓤 H A W (named 1) κ′ u8 .typed s (u′ ∷ []) is′ .0)) $

@@ -1,5 +1,7 @@
--- `frames::piece_at` meets its contract: a walk of its MIR, by hand. A reader is made in a local of the slice and the number that are passed, and lent to `next`; its number and the count of the part that `next` gives make the result.
--- `next` asks that 'a outlive the borrow of the reader. So the local is lent for ν ∷ κ, the meet of a new atom with 'a: its token is made of the atom's and one half of that of 'a (`within-token`), the other half goes to the callee as the token of 'a, and `within-end` ends it.
+-- `frames::piece_at` meets its contract: a walk of its MIR, by hand. A reader is made in a local and lent to `next`; the count of the part that
+-- `next` gives and the reader's place afterwards make the result.
+-- `next` asks that 'a outlive the borrow of the reader. So the local is lent for ν ∷ κ, the meet of a new atom with 'a: its token is made of the
+-- atom's and one half of that of 'a (`within-token`), the other half goes to the callee as the token of 'a, and `within-end` ends it.
 -- All that the proof knows of `next` is that it meets its contract. Assumes nothing.
 use mathlib.Core.Path.{_≡_, refl, ap}
 use Prim.Native.Nat.{ℕ, _<_, _^_}
@@ -46,7 +48,7 @@ use denote.Triple.Table.{entered, cited}
 use denote.Triple.Walked.{says, Stays, stay-none, stay-none-slice, walkOf, goes-none, goes-none-slice, Walks, ends-at, walked, walk-meets}
 use denote.Triple.Clauses.{ensured, lasts}
 use denote.Exit.{yes}
-use Rattle.frames.specs.Reader.{gives, moved, pieceAt}
+use Rattle.frames.specs.Reader.{gives, spot, moved, pieceAt}
 use Rattle.frames.specs.declared.Frames.{Frames}
 use Rattle.frames.specs.declared.Piece.{Piece}
 use Rattle.frames.proofs.Frames as T
@@ -139,7 +141,7 @@ module _ {M : Type 1} (𝓤 : URA M) (H : Heap 𝓤) (A : Atoms 𝓤) (W : Given
 
   -- what `next` says of the part t and of the reader z at exit
   abbrev Told : RefT (List ℕ) → Frames → Type 0
-  Told t z = (now t ≡ gives d) × (z ≡ moved d)
+  Told t z = ((now t ≡ gives d) × (t .ptr ≡ spot d)) × (z ≡ moved d)
 
   -- the result, and what whoever builds it owes
   abbrev made : RefT (List ℕ) → Frames → Piece
@@ -150,7 +152,7 @@ module _ {M : Type 1} (𝓤 : URA M) (H : Heap 𝓤) (A : Atoms 𝓤) (W : Given
 
   right : (t : RefT (List ℕ)) (z : Frames) → Told t z → made t z ≡ pieceAt (now s) n
   unfolding pieceAt
-  right t z e = λ i. record { width = length (e .0 i); next = e .1 i .at }
+  right t z e = λ i. record { width = length (e .0 .0 i); next = e .1 i .at }
 
   exits : (t : RefT (List ℕ)) (z : Frames) → Told t z → length (now t) < 2 ^ 64 → z .at < 2 ^ 64
       → ent 𝓤 (⋆ 𝓤 H A (‵ (flft κ (PosShare·left q)) ∷ (‵ (flft κ (PosShare·right q)) ⊛ ‵ ftrue) ∷ ‵ Own ∷ [])) (Post (P′.lowered (made t z)))

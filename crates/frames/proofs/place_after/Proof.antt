@@ -1,37 +1,29 @@
+-- `frames::place_after` meets its contract: past the line feed, which stands inside the text; else the same place.
+-- Assumes nothing.
 use native.Mathlib.Omega.{arith}
 use Rattle.frames.proofs.Laws.{frame-inside, place-past, place-stays}
 use borrow.Author.Needs.{needs}
 use Rattle.frames.proofs.place_after.Statement.{statement}
 use Rattle.frames.proofs.place_after.Tie as tie
-use Rattle.frames.proofs.place_after.Reads as reads
-use Rattle.frames.proofs.place_after.Lts as lts
-use Rattle.lines.proofs.read_line.Reads as read-line-reads
 
--- src/lib.rt:31:9
 read-line-requires : tie.Need-read-line-requires
 read-line-requires c κs = search needs
 
--- src/lib.rt:32:21
 enum-known-l : tie.Need-enum-known-l
 enum-known-l c = search needs
 
--- src/lib.rt:33:9
 enum-told : tie.Need-enum-told
 enum-told c = search needs
 
--- src/lib.rt:33:9
 returns : tie.Need-returns
 returns c = place-stays _ _ _ (c .before .before .read-line .ensures) _ (c .enum-told .given .1)
 
--- src/lib.rt:35:5
 add-result : tie.Need-add-result
 add-result c = omega (arith, frame-inside _ _ _ (c .before .before .before .read-line .ensures) _ (c .before .l .given .1))
 
--- src/lib.rt:35:5
 add-result-2 : tie.Need-add-result-2
 add-result-2 c = omega (arith, frame-inside _ _ _ (c .before .before .before .read-line .ensures) _ (c .before .l .given .1))
 
--- src/lib.rt:28:1
 returns-2 : tie.Need-returns-2
 returns-2 c = place-past _ _ _ (c .before .before .before .read-line .ensures) _ (c .before .l .given .1)
 
