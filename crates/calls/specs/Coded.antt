@@ -1,0 +1,9 @@
+-- An answer as one 64-bit number, for C and Rust.
+-- Assumes nothing.
+use Prim.Native.Nat.{ℕ, _-_, _%_, _^_}
+use Rattle.rules.specs.Refusals.{Res, good, refused}
+
+-- the value, or minus the refusal's number as a 64-bit machine has it
+unfoldable pub coded : Res ℕ → ℕ
+coded (good n) = n
+coded (refused r) = (2 ^ 64 - r .number) % 2 ^ 64

@@ -1,0 +1,47 @@
+// The public calls for C, C++ and Rust: numbers and byte slices only. A slice is a pointer and then a length.
+// An answer is one 64-bit number: its value, or minus the refusal's number.
+ghost use mathlib.Core.Path.{_≡_};
+ghost use Prim.Native.Nat.{_-_, _%_, _^_};
+ghost use lib.ListN.{length};
+ghost use Rattle.rules.specs.Refusals.{meaning};
+ghost use Rattle.rules.specs.Calls.{frameOutcome, placeOutcome};
+ghost use Rattle.calls.specs.Coded.{coded};
+use rules::Answer;
+
+// An answer as one number.
+fn code(a: Answer) -> u64
+    ensures { λ r. ⌜ r ≡ coded (meaning a) ⌝ }
+{
+    match a {
+        Answer::Given(n) => n as u64,
+        Answer::Refused(r) => minus(r.number),
+    }
+}
+
+// Minus n, as a 64-bit machine has it.
+fn minus(n: u8) -> u64
+    ensures { λ r. ⌜ r ≡ (2 ^ 64 - n) % 2 ^ 64 ⌝ }
+{
+    if n == 0 {
+        return 0;
+    }
+    18446744073709551615 - (n as u64 - 1)
+}
+
+// How many digits the frame at a place of a text has, 0 where none stands.
+#[no_mangle]
+pub extern "C" fn bhedhmurali_frame(text: &[u8], at: usize) -> usize
+    ensures { λ r. ⌜ r ≡ length (frameOutcome (now (text .entry)) at) ⌝ }
+{
+    let p = frames::piece_at(text, at);
+    p.width
+}
+
+// The place after the frame at a place; the same place where none stands.
+#[no_mangle]
+pub extern "C" fn bhedhmurali_next(text: &[u8], at: usize) -> usize
+    ensures { λ r. ⌜ r ≡ placeOutcome (now (text .entry)) at ⌝ }
+{
+    let p = frames::piece_at(text, at);
+    p.next
+}
