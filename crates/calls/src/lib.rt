@@ -4,7 +4,7 @@ ghost use mathlib.Core.Path.{_≡_};
 ghost use Prim.Native.Nat.{_-_, _%_, _^_};
 ghost use lib.ListN.{length};
 ghost use Rattle.rules.specs.Refusals.{meaning};
-ghost use Rattle.rules.specs.Calls.{frameOutcome, placeOutcome};
+ghost use Rattle.rules.specs.Calls.{simulateOutcome, frameOutcome, placeOutcome};
 ghost use Rattle.calls.specs.Coded.{coded};
 use rules::Answer;
 
@@ -44,4 +44,13 @@ pub extern "C" fn bhedhmurali_next(text: &[u8], at: usize) -> usize
 {
     let p = frames::piece_at(text, at);
     p.next
+}
+
+// simulate: a sequence on a row under a budget. The answer is the cycles run.
+#[no_mangle]
+pub extern "C" fn bhedhmurali_simulate(text: &[u8], row: &mut [u8], budget: usize) -> u64
+    ensures { λ r. ⌜ (r ≡ coded (simulateOutcome (now (text .entry)) (now (row .entry)) budget .answer))
+        × (now (row .exit) ≡ simulateOutcome (now (text .entry)) (now (row .entry)) budget .lent) ⌝ }
+{
+    code(row::simulate(text, row, budget))
 }

@@ -1,8 +1,35 @@
 //! The proved calls. An answer is its value, or minus the refusal's number.
 
 extern "C" {
+    fn bhedhmurali_simulate(
+        text: *const u8,
+        text_size: usize,
+        row: *mut u8,
+        row_size: usize,
+        budget: usize,
+    ) -> i64;
     fn bhedhmurali_frame(text: *const u8, text_size: usize, at: usize) -> usize;
     fn bhedhmurali_next(text: *const u8, text_size: usize, at: usize) -> usize;
+}
+
+/// A call's answer: the value, or the refusal's number.
+pub type Answer = Result<usize, u8>;
+
+fn answer(coded: i64) -> Answer {
+    usize::try_from(coded).map_err(|_| u8::try_from(-coded).unwrap_or(u8::MAX))
+}
+
+pub fn simulate(text: &[u8], row: &mut [u8], budget: u64) -> Answer {
+    let budget = usize::try_from(budget).unwrap_or(usize::MAX);
+    answer(unsafe {
+        bhedhmurali_simulate(
+            text.as_ptr(),
+            text.len(),
+            row.as_mut_ptr(),
+            row.len(),
+            budget,
+        )
+    })
 }
 
 /// How many digits the frame at a place has, and the place after it.

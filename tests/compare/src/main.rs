@@ -3,7 +3,9 @@
 
 mod frames;
 mod library;
+mod rows;
 mod seen;
+mod sequences;
 
 use second::generate::Random;
 
@@ -19,6 +21,7 @@ fn main() {
     let mut r = Random::new(number(2, 1));
     match words.first().map(String::as_str) {
         Some("frames") => frames::compare(&mut r, count),
-        _ => seen::stop("usage: compare frames COUNT [SEED]"),
+        Some("rows") => rows::compare(&mut r, count),
+        _ => seen::stop("usage: compare frames|rows COUNT [SEED]"),
     }
 }
