@@ -1,7 +1,7 @@
 //! The frame reader: texts read frame by frame from the start, and at any place.
 
-use crate::library;
 use crate::seen::same;
+use proved as library;
 use second::generate::{damaged, netlist, text_of, Random};
 
 pub fn compare(r: &mut Random, count: usize) {

@@ -2,7 +2,6 @@
 //! `compare WHAT COUNT [SEED]`
 
 mod frames;
-mod library;
 mod rows;
 mod seen;
 mod sequences;

@@ -1,8 +1,8 @@
 //! Rows: simulate, under every budget from 0 to the count and some over it.
 
-use crate::library;
 use crate::seen::{same, Seen};
 use crate::sequences;
+use proved as library;
 use second::generate::{netlist, Random};
 
 pub fn compare(r: &mut Random, count: usize) {
