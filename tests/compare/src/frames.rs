@@ -1,37 +1,35 @@
-//! The frame reader: texts read frame by frame from the start, and at any place.
+//! The frame reader: a text read frame by frame from the start, and at any place.
 
-use crate::seen::same;
-use proved as library;
+use crate::calls;
+use crate::given::{hold, Given};
+use crate::tally::Tally;
 use second::generate::{damaged, netlist, text_of, Random};
 
-pub fn compare(r: &mut Random, count: usize) {
-    let mut frames = 0;
-    for _ in 0..count {
-        let netlist = netlist(r, 12);
-        let mut text = text_of(&netlist);
-        if !r.once_in(4) {
-            text = damaged(r, &text);
-        }
-        let mut at = 0;
-        while one(&text, at) > at {
-            at = one(&text, at);
-            frames += 1;
-        }
-        one(&text, r.below(text.len() + 3));
-        one(&text, usize::MAX);
+pub fn once(r: &mut Random, tally: &mut Tally) {
+    let netlist = netlist(r, 12);
+    let mut text = text_of(&netlist);
+    if !r.once_in(4) {
+        text = damaged(r, &text);
     }
-    println!("frames: {frames} in {count} texts");
+    let mut at = 0;
+    loop {
+        one(&text, at);
+        tally.note("frame", &Ok::<_, u8>(()));
+        let next = second::frame(&text, at).2;
+        if next == at {
+            break;
+        }
+        at = next;
+    }
+    one(&text, r.below(text.len() + 3));
+    one(&text, usize::MAX);
 }
 
-/// Compares the frame at a place; the place after it.
-fn one(text: &[u8], at: usize) -> usize {
-    let (start, end, next) = second::frame(text, at);
-    let given: [&[u8]; 2] = [text, &at.to_string().into_bytes()];
-    same(
-        "frame",
-        &given,
-        &library::frame(text, at),
-        &(end - start, next),
-    );
-    next
+fn one(text: &[u8], at: usize) {
+    let given = Given {
+        texts: vec![text.to_vec()],
+        numbers: vec![at as u64],
+        ..Given::default()
+    };
+    hold(calls::frame, given);
 }

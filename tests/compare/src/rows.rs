@@ -1,25 +1,30 @@
 //! Rows: simulate, under every budget from 0 to the count and some over it.
 
-use crate::seen::{same, Seen};
+use crate::calls;
+use crate::given::{hold, Given};
 use crate::sequences;
-use proved as library;
+use crate::tally::Tally;
 use second::generate::{netlist, Random};
 
-pub fn compare(r: &mut Random, count: usize) {
-    let mut runs = Seen::default();
-    let mut turn = 0;
-    while turn < count {
-        let netlist = netlist(r, if turn % 40 == 0 { 512 } else { 12 });
-        let text = sequences::any(r, &netlist);
-        let (cells, instructions) =
-            second::read_sequence(&text).map_or((5, 2), |s| (s.row, s.instructions.len()));
-        let row = row(r, cells);
-        for budget in budgets(r, instructions) {
-            one(&text, &row, budget, &mut runs);
-            turn += 1;
-        }
+pub fn once(r: &mut Random, tally: &mut Tally) {
+    let most = if r.once_in(40) { 512 } else { 12 };
+    let netlist = netlist(r, most);
+    let text = sequences::any(r, &netlist);
+    let (cells, instructions) =
+        second::read_sequence(&text).map_or((5, 2), |s| (s.row, s.instructions.len()));
+    let row = row(r, cells);
+    for budget in budgets(r, instructions) {
+        tally.note(
+            "simulate",
+            &second::simulate(&text, &mut row.clone(), budget),
+        );
+        let given = Given {
+            texts: vec![text.clone()],
+            bytes: row.clone(),
+            numbers: vec![budget],
+        };
+        hold(calls::simulate, given);
     }
-    runs.hold("simulate", &[0, 1, 2, 3, 5, 12, 17]);
 }
 
 /// A row of zeros and ones, now and then too long or with another byte.
@@ -40,18 +45,4 @@ fn budgets(r: &mut Random, instructions: usize) -> Vec<u64> {
     };
     budgets.extend([instructions as u64 + 1, u64::MAX]);
     budgets
-}
-
-fn one(text: &[u8], row: &[u8], budget: u64, runs: &mut Seen) {
-    let (mut ours, mut theirs) = (row.to_vec(), row.to_vec());
-    let ran = second::simulate(text, &mut theirs, budget);
-    let given: [&[u8]; 3] = [text, row, &budget.to_string().into_bytes()];
-    same(
-        "simulate",
-        &given,
-        &library::simulate(text, &mut ours, budget),
-        &ran,
-    );
-    same("simulate's row", &given, &ours, &theirs);
-    runs.note(&ran);
 }
