@@ -15,7 +15,7 @@ use Rattle.rules.specs.Device.{execute, run, cycles}
 use Rattle.rules.specs.Calls.{Outcome, simulated, ranFor, simulateOutcome}
 use Rattle.row.specs.declared.Head.{Head}
 use Rattle.row.specs.declared.Reading.{Reading}
-use Rattle.row.specs.Decoded.{instructionAt, instructionIn, eachLine, instructionsAt, sequenceIn}
+use Rattle.row.specs.Decoded.{instructionAt, nextAt, eachLine, instructionsAt, sequenceIn}
 use Rattle.row.specs.Runs.{runAt, outcomeOf}
 
 pub length-lines : {A : Type 0} (said : ℕ → A) (next : ℕ → ℕ) (k at : ℕ) → length (eachLine said next at k) ≡ k
@@ -30,7 +30,7 @@ run-lines text zero k at row = let e : min 0 k ≡ 0 = omega arith in rw e
 run-lines text (suc b) zero at row = let e : min (suc b) 0 ≡ 0 = omega arith in rw e
 run-lines text (suc b) (suc k) at row =
     let e : min (suc b) (suc k) ≡ suc (min b k) = omega arith in
-    rw e (run-lines text b k (instructionAt text at .next) (execute (instructionIn text (instructionAt text at)) row))
+    rw e (run-lines text b k (nextAt text at) (execute (instructionAt text at) row))
 
 module _ (text row : List ℕ) (budget : ℕ) (s : Reading) (read : sequenceIn text s ≡ sequenceOf form01 text) where
   pub refused-outcome : (r : Refusal) → s ≡ Reading.Refused r → outcomeOf (Answer.Refused r) row ≡ simulateOutcome text row budget

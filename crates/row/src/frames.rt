@@ -1,9 +1,10 @@
 // The lines of a sequence: each answers the place of the next line, or its refusal.
 ghost use mathlib.Core.Path.{_≡_};
 ghost use Prim.Native.Nat.{_+_, _*_, _<_, _≤_};
-ghost use lib.ListN.{length};
+ghost use lib.ListN.{length, drop};
 ghost use Rattle.rules.specs.Basics.{within};
 ghost use Rattle.rules.specs.Form.{form01};
+ghost use Rattle.rules.specs.Lines.{digits};
 ghost use Rattle.rules.specs.Sequence.{setOf, norOf, instructionOf, placeOf};
 ghost use Rattle.lines.specs.Line.{bytesFrom};
 ghost use Rattle.row.specs.Answers.{refusalOf, afterRule, lineAnswer, linesAnswer, headAnswer, numbersFit, judgedOf};
@@ -111,7 +112,7 @@ fn set_line(text: &[u8], first: usize, k: usize, row: usize) -> Answer
 
 // A NOR line with k cells.
 fn nor_line(text: &[u8], first: usize, k: usize, row: usize) -> Answer
-    requires { ⌜ first + 2 * k < length (now text) ⌝ }
+    requires { ⌜ (first + 2 * k < length (now text)) × (2 * k ≤ digits (drop first (now text))) ⌝ }
     ensures { λ r. ⌜ r ≡ afterRule (norOf form01 row (bytesFrom (now (text .entry)) first k)) (first + 2 * k + 1) ⌝ }
 {
     if k < 2 {

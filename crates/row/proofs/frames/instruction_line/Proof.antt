@@ -1,3 +1,4 @@
+use Rattle.row.proofs.Decoding.{line-digits}
 use mathlib.Core.Path.{sym, ap, _∙_}
 use native.Mathlib.Omega.{arith}
 use Rattle.rules.specs.declared.Answer.{Answer}
@@ -65,7 +66,9 @@ sub-nor-line c = let f = frame-fits _ _ _ (sym (c .before .before .before .befor
 
 -- src/frames.rt:141:9
 nor-line-requires : tie.Need-nor-line-requires
-nor-line-requires c κs = let f = frame-fits _ _ _ (sym (c .before .before .before .before .before .before .read-line .ensures) ∙ c .before .before .before .before .l .given .1) in omega (arith, f .inside, f .least, f .most)
+nor-line-requires c κs = let e = sym (c .before .before .before .before .before .before .read-line .ensures) ∙ c .before .before .before .before .l .given .1 in
+    let f = frame-fits _ _ _ e in
+    (omega (arith, f .inside, f .least), line-digits _ _ _ e)
 
 -- src/frames.rt:141:9
 returns-3 : tie.Need-returns-3
