@@ -9,16 +9,18 @@ use mathlib.Core.List.{List, [], _∷_}
 use lib.Dec.{eqb, leb}
 use lib.ListN.{getD, length, drop, drop-of-length-le}
 use lib.Seq.{drop-cons, getD-drop}
-use borrow.Author.Tests.{eq-eqb, ne-eqb, eqb-true}
+use borrow.Author.Tests.{eq-eqb, ne-eqb, eqb-true, lt-leb}
 use Rattle.rules.specs.Basics.{pick}
 use Rattle.rules.specs.Form.{form01}
-use Rattle.rules.specs.Lines.{isDigit, valueOf, digits, isLine}
+use Rattle.rules.specs.Lines.{isDigit, digits, isLine}
+use Rattle.rules.specs.Sequence.{Set}
 use Rattle.rules.proofs.Laws.{no-way, and-true}
 use Rattle.lines.specs.declared.Line.the-variants.{Frame}
 use Rattle.lines.specs.Line.{lineAt, byteAt, bytesFrom}
-use Rattle.lines.proofs.Meaning.{Fits, frame-fits}
-use Rattle.row.specs.declared.Cell.{Cell}
-use Rattle.row.specs.Decoded.{cellsIn, cellsFrom, firstOf, cellAt, endFrom}
+use Rattle.lines.proofs.Laws.{byte-small}
+use Rattle.lines.proofs.Meaning.{frame-fits}
+use Rattle.row.specs.declared.Entry.{Entry}
+use Rattle.row.specs.Decoded.{cellsIn, cellsFrom, firstOf, cellAt, endFrom, norOn, instructionAt, nextAt}
 use Rattle.row.proofs.Digits.{digit-in, digits-further, no-feed}
 
 -- ---- one cell
@@ -42,40 +44,68 @@ module _ (text : List ℕ) (at : ℕ) where
           rw (drop-cons text at 0 l, e)
       go (no l) = rw (drop-of-length-le text {i = at} (omega arith))
 
-  pub cell-past : length text ≤ at + 1 → Cell.End ≡ cellAt text at
+  pub cell-past : length text ≤ at + 1 → Entry.End ≡ cellAt text at
   unfolding cellAt firstOf
   cell-past h = rw (cells-short h)
 
   module _ (h : at + 1 < length text) where
-    pub cell-feed : getD text at 0 ≡ 10 → Cell.End ≡ cellAt text at
+    pub cell-feed : getD text at 0 ≡ 10 → Entry.End ≡ cellAt text at
     unfolding cellAt firstOf pick
     cell-feed e = rw (cells-open h, eq-eqb (getD text at 0) 10 e)
 
-    pub cell-named : (b : ℕ) → (getD text at 0 ≡ 10 → ⊥) → b ≡ byteAt text at → Cell.Named b ≡ cellAt text at
+    pub cell-named : (b : ℕ) → (getD text at 0 ≡ 10 → ⊥) → b ≡ byteAt text at → Entry.Cell b ≡ cellAt text at
     unfolding cellAt firstOf pick
     cell-named b n e = rw (cells-open h, ne-eqb (getD text at 0) 10 n, e)
 
   -- a named cell is followed by those two places further
-  pub named : (c : ℕ) → cellAt text at ≡ Cell.Named c → (cellsFrom text at ≡ c ∷ cellsFrom text (at + 2)) × (at + 2 ≤ length text)
+  pub named : (c : ℕ) → cellAt text at ≡ Entry.Cell c → (cellsFrom text at ≡ c ∷ cellsFrom text (at + 2)) × (at + 2 ≤ length text)
   unfolding cellAt firstOf pick
   named c e = go (decLt (at + 1) (length text)) e
     where
-      fed : (t : Bool) → firstOf (pick t [] (byteAt text at ∷ cellsFrom text (at + 2))) ≡ Cell.Named c
+      fed : (t : Bool) → firstOf (pick t [] (byteAt text at ∷ cellsFrom text (at + 2))) ≡ Entry.Cell c
           → pick t [] (byteAt text at ∷ cellsFrom text (at + 2)) ≡ c ∷ cellsFrom text (at + 2)
       fed true f = absurd (no-way (cc))
       fed false f = cc
 
-      go : Dec (at + 1 < length text) → firstOf (cellsFrom text at) ≡ Cell.Named c → (cellsFrom text at ≡ c ∷ cellsFrom text (at + 2)) × (at + 2 ≤ length text)
+      go : Dec (at + 1 < length text) → firstOf (cellsFrom text at) ≡ Entry.Cell c → (cellsFrom text at ≡ c ∷ cellsFrom text (at + 2)) × (at + 2 ≤ length text)
       go (yes h) f = (cells-open h ∙ fed (eqb (getD text at 0) 10) (rw (cells-open h) at f), omega arith)
       go (no h) f = absurd (no-way (let z = cells-short (omega arith) in cc))
 
-  pub ended : cellAt text at ≡ Cell.End → cellsFrom text at ≡ []
+  -- it is the byte whose digits stand there
+  pub cell-small : (c : ℕ) → cellAt text at ≡ Entry.Cell c → c ≤ 255
+  unfolding cellAt firstOf pick
+  cell-small c e = go (decLt (at + 1) (length text)) e
+    where
+      fed : (t : Bool) → firstOf (pick t [] (byteAt text at ∷ cellsFrom text (at + 2))) ≡ Entry.Cell c → byteAt text at ≡ c
+      fed true f = absurd (no-way (cc))
+      fed false f = cc
+
+      go : Dec (at + 1 < length text) → firstOf (cellsFrom text at) ≡ Entry.Cell c → c ≤ 255
+      go (yes h) f = rw (← fed (eqb (getD text at 0) 10) (rw (cells-open h) at f)) (byte-small text at)
+      go (no h) f = absurd (no-way (let z = cells-short (omega arith) in cc))
+
+  pub ended : cellAt text at ≡ Entry.End → cellsFrom text at ≡ []
   unfolding cellAt firstOf
   ended e = go (cellsFrom text at) e
     where
-      go : (l : List ℕ) → firstOf l ≡ Cell.End → l ≡ []
+      go : (l : List ℕ) → firstOf l ≡ Entry.End → l ≡ []
       go [] f = refl
       go (c ∷ l) f = absurd (no-way (cc))
+
+-- ---- the instruction at a place, by its kind
+
+module _ (text : List ℕ) (at : ℕ) (h : at < length text) where
+  pub set-at : byteAt text at ≡ 18 → instructionAt text at ≡ Set (cellsFrom text (at + 2))
+  unfolding instructionAt pick
+  set-at e = rw (lt-leb (length text) at h, eq-eqb (byteAt text at) 18 e)
+
+  pub nor-at : (byteAt text at ≡ 18 → ⊥) → instructionAt text at ≡ norOn (cellsFrom text (at + 2))
+  unfolding instructionAt pick
+  nor-at e = rw (lt-leb (length text) at h, ne-eqb (byteAt text at) 18 e)
+
+  pub next-at : nextAt text at ≡ endFrom text (at + 2) + 1
+  unfolding nextAt pick
+  next-at = rw (lt-leb (length text) at h)
 
 -- ---- a walk from cell to cell
 
@@ -88,11 +118,11 @@ pub record Walk {A : Type 0} (f : List ℕ → A) (a : A) (text : List ℕ) (fir
 pub walk-start : {A : Type 0} (f : List ℕ → A) (text : List ℕ) (first : ℕ) → first ≤ length text + 1 → Walk f (f (cellsFrom text first)) text first first
 walk-start f text first h = record { same = refl; stop = refl; inside = h }
 
-pub walk-inside : (text : List ℕ) (at c : ℕ) (n : Cell) → n ≡ cellAt text at → n ≡ Cell.Named c → at + 2 ≤ length text
+pub walk-inside : (text : List ℕ) (at c : ℕ) (n : Entry) → n ≡ cellAt text at → n ≡ Entry.Cell c → at + 2 ≤ length text
 walk-inside text at c n e q = named text at c (sym e ∙ q) .1
 
-module _ {A : Type 0} {f : List ℕ → A} {a : A} {text : List ℕ} {first at : ℕ} (walk : Walk f a text first at) (n : Cell) (here : n ≡ cellAt text at) where
-  pub walk-turn : (g : List ℕ → A) (c : ℕ) → n ≡ Cell.Named c → f (c ∷ cellsFrom text (at + 2)) ≡ g (cellsFrom text (at + 2)) → Walk g a text first (at + 2)
+module _ {A : Type 0} {f : List ℕ → A} {a : A} {text : List ℕ} {first at : ℕ} (walk : Walk f a text first at) (n : Entry) (here : n ≡ cellAt text at) where
+  pub walk-turn : (g : List ℕ → A) (c : ℕ) → n ≡ Entry.Cell c → f (c ∷ cellsFrom text (at + 2)) ≡ g (cellsFrom text (at + 2)) → Walk g a text first (at + 2)
   unfolding endFrom
   walk-turn g c q turn =
       let z = named text at c (sym here ∙ q) in
@@ -105,7 +135,7 @@ module _ {A : Type 0} {f : List ℕ → A} {a : A} {text : List ℕ} {first at :
         inside = omega (arith, z .1);
       }
 
-  pub walk-end : n ≡ Cell.End → (v : A) → f [] ≡ v → (at ≡ endFrom text first) × (v ≡ a)
+  pub walk-end : n ≡ Entry.End → (v : A) → f [] ≡ v → (at ≡ endFrom text first) × (v ≡ a)
   unfolding endFrom
   walk-end q v e =
       let z = ended text at (sym here ∙ q) in

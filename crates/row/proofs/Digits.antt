@@ -1,5 +1,5 @@
 -- Digits: two cells are the same exactly when their digits are.
-use Prim.Native.Nat.{ℕ, zero, suc, _+_, _-_, _*_, _<_, _≤_}
+use Prim.Native.Nat.{ℕ, zero, suc, _+_, _<_, _≤_}
 use native.Mathlib.Omega.{arith}
 use mathlib.Core.Path.{_≡_, refl, sym, ap, _∙_}
 use mathlib.Core.Bool.{Bool, true, false, _&&_, _||_}
@@ -10,7 +10,7 @@ use lib.Seq.{getD-drop, drop-drop}
 use borrow.Author.Tests.{eqb-true, eqb-false, eq-eqb, ne-eqb, leb-true}
 use Rattle.rules.specs.Basics.{pick}
 use Rattle.rules.specs.Lines.{isDigit, valueOf, digits}
-use Rattle.rules.proofs.Laws.{no-way, and-true}
+use Rattle.rules.proofs.Laws.{and-true}
 use Rattle.lines.specs.Line.{byteAt}
 use Rattle.lines.proofs.Laws.{value-number, value-letter, value-small}
 

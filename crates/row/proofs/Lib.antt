@@ -7,5 +7,7 @@ pub mod Onward
 pub mod Decoding
 pub mod Saying
 pub mod Whole
+pub mod Listing
 pub mod Outcomes
 pub mod Running
+pub mod ReadsWell

@@ -1,24 +1,23 @@
 -- The row: a slice of bits, one instruction's work, and the work that is left of a run.
-use Prim.Native.Nat.{ℕ, zero, suc, _+_, _-_, _*_, _<_, _≤_}
+use Prim.Native.Nat.{ℕ, suc, _+_, _-_, _*_, _<_, _≤_}
 use native.Mathlib.Omega.{arith}
 use native.Mathlib.Numerals.{add-one}
 use mathlib.Core.Path.{_≡_, refl, sym, ap, _∙_}
-use mathlib.Core.Bool.{Bool, true, false, _&&_}
-use mathlib.Core.List.{List, [], _∷_}
+use mathlib.Core.Bool.{Bool, true, false}
+use mathlib.Core.List.{List, _∷_}
 use lib.Dec.{eqb, leb}
 use lib.ListN.{getD, length, set, drop, drop-of-length-le}
 use lib.Seq.{drop-cons}
 use borrow.Author.Tests.{lt-leb, le-leb, eq-eqb, ne-eqb}
 use Rattle.rules.specs.Basics.{pick, all, setAll}
-use Rattle.rules.specs.Sequence.{Set, Nor}
 use Rattle.rules.specs.Values.{areBits, nor}
 use Rattle.rules.specs.Device.{execute}
 use Rattle.lines.specs.Line.{byteAt}
-use Rattle.row.specs.declared.Cell.{Cell}
+use Rattle.row.specs.declared.Entry.{Entry}
 use Rattle.row.specs.declared.device.Operands.{Operands}
 use Rattle.row.specs.Decoded.{cellsFrom, cellAt, endFrom, norOn, instructionAt, nextAt}
 use Rattle.row.specs.Runs.{operandsAt, lower, writtenOf, runAt}
-use Rattle.row.proofs.Decoding.{named, ended, Walk}
+use Rattle.row.proofs.Decoding.{named, ended, set-at, nor-at, next-at, Walk}
 
 -- ---- so many bytes, each 0 or 1
 
@@ -76,14 +75,14 @@ pub nor-ends : (text : List ℕ) (first at v : ℕ) (row : List ℕ) → (at ≡
 unfolding operandsAt
 nor-ends text first at v row e = rw (e .0, e .1)
 
-module _ (text : List ℕ) (first : ℕ) (n : Cell) (here : n ≡ cellAt text first) (row : List ℕ) where
-  pub nor-none : n ≡ Cell.End → (first + 1 ≡ endFrom text first + 1) × (row ≡ execute (norOn (cellsFrom text first)) row)
+module _ (text : List ℕ) (first : ℕ) (n : Entry) (here : n ≡ cellAt text first) (row : List ℕ) where
+  pub nor-none : n ≡ Entry.End → (first + 1 ≡ endFrom text first + 1) × (row ≡ execute (norOn (cellsFrom text first)) row)
   unfolding endFrom norOn execute setAll
   nor-none q =
       let z = ended text first (sym here ∙ q) in
       rw z (omega arith, refl)
 
-  pub nor-one : (w before x : ℕ) (o : Operands) (row′ : List ℕ) → n ≡ Cell.Named w → o ≡ operandsAt text (first + 2) row → before ≡ getD row w 0
+  pub nor-one : (w before x : ℕ) (o : Operands) (row′ : List ℕ) → n ≡ Entry.Cell w → o ≡ operandsAt text (first + 2) row → before ≡ getD row w 0
       → x ≡ writtenOf before (o .value) → row′ ≡ set row w x
       → (o .next ≡ endFrom text first + 1) × (row′ ≡ execute (norOn (cellsFrom text first)) row)
   unfolding endFrom norOn execute operandsAt writtenOf
@@ -99,13 +98,12 @@ module _ (text : List ℕ) (at : ℕ) (row : List ℕ) where
   module _ (h : at < length text) (k r : ℕ) (row′ : List ℕ) (kind : k ≡ byteAt text at) where
     pub step-set : k ≡ 18 → (r ≡ endFrom text (at + 2) + 1) × (row′ ≡ setAll 1 (cellsFrom text (at + 2)) row)
         → (r ≡ nextAt text at) × (row′ ≡ execute (instructionAt text at) row)
-    unfolding nextAt instructionAt execute pick
-    step-set s e = rw (lt-leb (length text) at h, ← kind, eq-eqb k 18 s) e
+    unfolding execute
+    step-set s e = rw (next-at text at h, set-at text at h (sym kind ∙ s)) e
 
     pub step-nor : (k ≡ 18 → ⊥) → (r ≡ endFrom text (at + 2) + 1) × (row′ ≡ execute (norOn (cellsFrom text (at + 2))) row)
         → (r ≡ nextAt text at) × (row′ ≡ execute (instructionAt text at) row)
-    unfolding nextAt instructionAt pick
-    step-nor s e = rw (lt-leb (length text) at h, ← kind, ne-eqb k 18 s) e
+    step-nor s e = rw (next-at text at h, nor-at text at h (λ z. s (kind ∙ z))) e
 
 -- ---- a run
 

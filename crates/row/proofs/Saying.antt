@@ -1,7 +1,7 @@
 -- Lines that read well say what is decoded where they stand.
-use Prim.Native.Nat.{ℕ, zero, suc, _+_, _-_, _*_, _/_, _%_, _<_, _≤_}
+use Prim.Native.Nat.{ℕ, zero, suc, _+_, _-_, _/_, _≤_}
 use native.Mathlib.Omega.{arith}
-use mathlib.Core.Path.{_≡_, refl, sym, ap, _∙_}
+use mathlib.Core.Path.{_≡_, refl, ap, _∙_}
 use mathlib.Core.Bool.{Bool, true, false, _&&_, not}
 use mathlib.Core.List.{List, [], _∷_}
 use lib.Dec.{eqb, ltb, leb}
@@ -9,14 +9,14 @@ use lib.ListN.{getD, length}
 use borrow.Author.Tests.{leb-true, lt-leb}
 use Rattle.rules.specs.Basics.{pick, all, repeats, ascending}
 use Rattle.rules.specs.Form.{form01, one}
-use Rattle.rules.specs.Refusals.{Res, good, refused, refuse, _>>=_, _>>_, require, orRefuse}
+use Rattle.rules.specs.Refusals.{good, refuse, _>>=_, _>>_, require, orRefuse}
 use Rattle.rules.specs.Lines.{fields, also}
 use Rattle.rules.specs.Netlist.{due}
-use Rattle.rules.specs.Sequence.{Instruction, Set, Nor, norFrom, setOf, norOf, instructionOf, placeOf}
+use Rattle.rules.specs.Sequence.{Instruction, Set, norFrom, setOf, norOf, instructionOf, placeOf}
 use Rattle.rules.proofs.Laws.{no-way, and-true, require-good}
 use Rattle.lines.specs.declared.Line.the-variants.{Frame}
 use Rattle.lines.specs.Line.{lineAt, byteAt, bytesFrom}
-use Rattle.lines.proofs.Meaning.{Fits, frame-fits, numbers-one}
+use Rattle.lines.proofs.Meaning.{frame-fits, numbers-one}
 use Rattle.row.specs.Decoded.{cellsFrom, endFrom, norOn, instructionAt, nextAt}
 use Rattle.row.proofs.Judging.{length-bytes}
 use Rattle.row.proofs.Framed.{kind-first}
@@ -46,7 +46,7 @@ module _ (row : ℕ) (l : List ℕ) (a : Instruction) where
       go [] h z = absurd (omega arith)
       go (w ∷ os) h z = cc
 
-module _ (row : ℕ) (text : List ℕ) (at n : ℕ) (e : lineAt text at ≡ Frame n) where
+module _ (text : List ℕ) (at n : ℕ) (e : lineAt text at ≡ Frame n) where
   -- the next line begins behind the line feed
   pub next-said : at + n + 1 ≡ nextAt text at
   unfolding nextAt endFrom pick
@@ -55,6 +55,7 @@ module _ (row : ℕ) (text : List ℕ) (at n : ℕ) (e : lineAt text at ≡ Fram
       let l : length (cellsFrom text (at + 2)) ≡ n / 2 - 1 = ap length (line-cells text at n e) ∙ length-bytes text (at + 2) (n / 2 - 1) in
       rw (lt-leb (length text) at (omega (arith, f .inside)), l) (omega (arith, f .even, f .least))
 
+module _ (row : ℕ) (text : List ℕ) (at n : ℕ) (e : lineAt text at ≡ Frame n) where
   pub instruction-said : (a : Instruction) → instructionOf form01 row (bytesFrom text at (n / 2)) ≡ good a → a ≡ instructionAt text at
   unfolding instructionOf form01 pick instructionAt
   instruction-said a g =

@@ -1,7 +1,6 @@
 -- A sequence where it stands in a text: instructions and places decoded line by line, without a check, and what a reading says.
 -- Assumes nothing.
 use Prim.Native.Nat.{ℕ, zero, suc, _+_, _*_}
-use mathlib.Core.Bool.{Bool, true, false}
 use mathlib.Core.List.{List, [], _∷_}
 use lib.Dec.{eqb, leb}
 use lib.ListN.{length, drop}
@@ -12,7 +11,8 @@ use Rattle.rules.specs.Lines.{valueOf}
 use Rattle.rules.specs.Sequence as rules
 use Rattle.rules.specs.Sequence.{Set, Nor}
 use Rattle.lines.specs.Line.{byteAt}
-use Rattle.row.specs.declared.Cell.{Cell}
+use Rattle.row.specs.declared.Entry.{Entry}
+use Rattle.row.specs.declared.Head.{Head}
 use Rattle.row.specs.declared.Reading.{Reading}
 
 -- ---- the cells of a line
@@ -27,11 +27,11 @@ cellsIn (h ∷ l ∷ t) = pick (eqb h 10) [] ((16 * valueOf h + valueOf l) ∷ c
 unfoldable pub cellsFrom : List ℕ → ℕ → List ℕ
 cellsFrom text at = cellsIn (drop at text)
 
-unfoldable pub firstOf : List ℕ → Cell
-firstOf [] = Cell.End
-firstOf (c ∷ cs) = Cell.Named c
+unfoldable pub firstOf : List ℕ → Entry
+firstOf [] = Entry.End
+firstOf (c ∷ cs) = Entry.Cell c
 
-unfoldable pub cellAt : List ℕ → ℕ → Cell
+unfoldable pub cellAt : List ℕ → ℕ → Entry
 cellAt text at = firstOf (cellsFrom text at)
 
 unfoldable pub endFrom : List ℕ → ℕ → ℕ
@@ -70,15 +70,17 @@ placesAt text = eachLine (λ at. byteAt text (at + 2)) (λ at. at + 5)
 
 -- ---- what a reading says of its text: the sequence that stands there, or the refusal
 
+abbrev pub sequenceAt : List ℕ → Head → rules.Sequence
+sequenceAt text h = record {
+  row = h .row;
+  inputs = h .inputs;
+  outputs = h .outputs;
+  instructions = instructionsAt text (h .code) (h .instructions);
+  places = placesAt text (h .places) (h .outputs);
+}
+
 unfoldable pub sequenceIn : List ℕ → Reading → Res rules.Sequence
-sequenceIn text (Reading.Sequence h) =
-    good (record {
-      row = h .row;
-      inputs = h .inputs;
-      outputs = h .outputs;
-      instructions = instructionsAt text (h .code) (h .instructions);
-      places = placesAt text (h .places) (h .outputs);
-    })
+sequenceIn text (Reading.Sequence h) = good (sequenceAt text h)
 sequenceIn text (Reading.Refused r) = refused r
 
 abbrev pub refusalIn : Reading → Refusal

@@ -7,7 +7,8 @@ ghost use Rattle.rules.specs.Values.{areBits};
 ghost use Rattle.rules.specs.Device.{execute};
 ghost use Rattle.row.specs.Decoded.{cellsFrom, endFrom, norOn, instructionAt, nextAt};
 ghost use Rattle.row.specs.Runs.{operandsAt, lower, writtenOf, runAt};
-use crate::Cell;
+use crate::Entry;
+use crate::frames;
 
 // What the operands of a NOR give, and the place of the next line.
 struct Operands {
@@ -15,6 +16,7 @@ struct Operands {
     next: usize,
 }
 
+// The smaller of two numbers.
 pub(crate) fn smaller(a: usize, b: usize) -> usize
     ensures { λ r. ⌜ r ≡ min a b ⌝ }
 {
@@ -59,7 +61,7 @@ fn set_cells(text: &[u8], first: usize, row: &mut [u8]) -> usize
     let mut at = first;
     loop {
         let n = crate::cell_at(text, at);
-        let Cell::Named(c) = n else {
+        let Entry::Cell(c) = n else {
             return at + 1;
         };
         lines::write::put(row, c, 1);
@@ -86,7 +88,7 @@ fn nor(text: &[u8], first: usize, row: &[u8]) -> Operands
     let mut at = first;
     loop {
         let n = crate::cell_at(text, at);
-        let Cell::Named(c) = n else {
+        let Entry::Cell(c) = n else {
             return Operands {
                 value: value,
                 next: at + 1,
@@ -113,7 +115,7 @@ fn nor_cells(text: &[u8], first: usize, row: &mut [u8]) -> usize
     ensures { λ r. ⌜ (r ≡ endFrom (now (text .entry)) first + 1) × (now (row .exit) ≡ execute (norOn (cellsFrom (now (text .entry)) first)) (now (row .entry))) ⌝ }
 {
     let n = crate::cell_at(text, first);
-    let Cell::Named(w) = n else {
+    let Entry::Cell(w) = n else {
         return first + 1;
     };
     let o = nor(text, first + 2, row);
@@ -129,7 +131,7 @@ fn step(text: &[u8], at: usize, row: &mut [u8]) -> usize
     if text.len() <= at {
         return at;
     }
-    if lines::byte_at(text, at) == 18 {
+    if lines::byte_at(text, at) == frames::KIND_SET {
         return set_cells(text, at + 2, row);
     }
     nor_cells(text, at + 2, row)

@@ -29,8 +29,8 @@ pub enum Reading {
 }
 
 // What stands at a place of an instruction's line: the cell whose digits stand there, or the line's end.
-pub enum Cell {
-    Named(usize),
+pub enum Entry {
+    Cell(usize),
     End,
 }
 
@@ -45,19 +45,19 @@ pub fn refusal(r: Reading) -> Refusal
 }
 
 // A line's cells stand two digits each from the place after its kind on, up to the line's end; the next line begins one place further.
-pub fn cell_at(text: &[u8], at: usize) -> Cell
+pub fn cell_at(text: &[u8], at: usize) -> Entry
     ensures { λ r. ⌜ r ≡ cellAt (now (text .entry)) at ⌝ }
 {
     if text.len() <= at {
-        return Cell::End;
+        return Entry::End;
     }
     if text.len() - at < 2 {
-        return Cell::End;
+        return Entry::End;
     }
-    if text[at] == 10 {
-        return Cell::End;
+    if text[at] == b'\n' {
+        return Entry::End;
     }
-    Cell::Named(lines::byte_at(text, at))
+    Entry::Cell(lines::byte_at(text, at))
 }
 
 // The sequence reader.

@@ -7,31 +7,24 @@ use Rattle.row.proofs.cell_at.Reads as reads
 use Rattle.row.proofs.cell_at.Lts as lts
 use Rattle.lines.proofs.byte_at.Reads as byte-at-reads
 
--- src/lib.rt:52:9
 returns : tie.Need-returns
 returns c = cell-past (c .before .before .args .text .now) _ (omega arith)
 
--- src/lib.rt:54:8
 sub-if2 : tie.Need-sub-if2
 sub-if2 c = search needs
 
--- src/lib.rt:55:9
 returns-2 : tie.Need-returns-2
 returns-2 c = cell-past (c .before .before .before .args .text .now) _ (omega arith)
 
--- src/lib.rt:57:8
 shared-slice-read-if3 : tie.Need-shared-slice-read-if3
 shared-slice-read-if3 c = search needs
 
--- src/lib.rt:58:9
 returns-3 : tie.Need-returns-3
 returns-3 c = cell-feed (c .before .before .before .before .before .args .text .now) _ (omega arith) (c .if3 .taken)
 
--- src/lib.rt:60:17
 byte-at-requires : tie.Need-byte-at-requires
 byte-at-requires c κs = search needs
 
--- src/lib.rt:48:1
 returns-4 : tie.Need-returns-4
 returns-4 c = cell-named (c .before .before .before .before .before .before .args .text .now) _ (omega arith) _ (c .before .if3 .left) (c .byte-at .ensures)
 

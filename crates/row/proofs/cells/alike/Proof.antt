@@ -5,35 +5,27 @@ use Rattle.row.proofs.cells.alike.Tie as tie
 use Rattle.row.proofs.cells.alike.Reads as reads
 use Rattle.row.proofs.cells.alike.Lts as lts
 
--- src/cells.rt:49:8
 shared-slice-read-if1 : tie.Need-shared-slice-read-if1
 shared-slice-read-if1 c = omega (arith, digits-inside (c .before .args .text .now) (c .before .args .a) 2 (omega arith) (c .before .pre .0))
 
--- src/cells.rt:49:19
 shared-slice-read-if1-2 : tie.Need-shared-slice-read-if1-2
 shared-slice-read-if1-2 c = omega (arith, digits-inside (c .before .before .args .text .now) (c .before .before .args .b) 2 (omega arith) (c .before .before .pre .1))
 
--- src/cells.rt:50:9
 returns : tie.Need-returns
 returns c = unlike _ _ _ (c .before .before .before .pre .0) (c .before .before .before .pre .1) (c .if1 .taken)
 
--- src/cells.rt:52:10
 add-result : tie.Need-add-result
 add-result c = omega (arith, digits-inside (c .before .before .before .args .text .now) (c .before .before .before .args .a) 2 (omega arith) (c .before .before .before .pre .0))
 
--- src/cells.rt:52:5
 shared-slice-read-result : tie.Need-shared-slice-read-result
 shared-slice-read-result c = omega (arith, digits-inside (c .before .before .before .before .args .text .now) (c .before .before .before .before .args .a) 2 (omega arith) (c .before .before .before .before .pre .0))
 
--- src/cells.rt:52:25
 add-result-2 : tie.Need-add-result-2
 add-result-2 c = omega (arith, digits-inside (c .before .before .before .before .args .text .now) (c .before .before .before .before .args .b) 2 (omega arith) (c .before .before .before .before .pre .1))
 
--- src/cells.rt:52:20
 shared-slice-read-result-2 : tie.Need-shared-slice-read-result-2
 shared-slice-read-result-2 c = omega (arith, digits-inside (c .before .before .before .before .before .args .text .now) (c .before .before .before .before .before .args .b) 2 (omega arith) (c .before .before .before .before .before .pre .1))
 
--- src/cells.rt:45:1
 returns-2 : tie.Need-returns-2
 returns-2 c = alike-then _ _ _ (c .before .before .before .before .before .pre .0) (c .before .before .before .before .before .pre .1) (c .before .before .if1 .left)
 

@@ -2,7 +2,7 @@ use Prim.Native.Nat.{_-_, _*_, _+_}
 use native.Mathlib.Omega.{arith}
 use borrow.Author.Needs.{needs}
 use mathlib.Core.Path.{refl, sym, _∙_}
-use mathlib.Core.Bool.{Bool, true, false, not}
+use mathlib.Core.Bool.{true, false, not}
 use Rattle.rules.specs.Basics.{repeats}
 use Rattle.lines.specs.Line.{bytesFrom}
 use Rattle.row.proofs.Digits.{digits-inside, digits-further}
@@ -19,59 +19,45 @@ Inv-loop text first k j₀ j = Left (λ l. not (repeats l)) (not (repeats (bytes
 abbrev μ-loop : tie.MeasureT-loop
 μ-loop text first k j₀ j = k - j
 
--- src/cells.rt:76:5
 loop-holds : tie.Need-loop-holds Inv-loop μ-loop
 loop-holds c = left-start _ _ _ _
 
--- src/cells.rt:77:37
 add-names : tie.Need-add-names Inv-loop μ-loop
 add-names c = search needs
 
--- src/cells.rt:77:32
 mul-names : tie.Need-mul-names Inv-loop μ-loop
 mul-names c = omega (arith, digits-inside (c .before .before .before .args .text .now) (c .before .before .before .args .first) (2 * c .before .before .before .args .k) (omega arith) (c .before .before .before .pre))
 
--- src/cells.rt:77:24
 add-names-2 : tie.Need-add-names-2 Inv-loop μ-loop
 add-names-2 c = omega (arith, digits-inside (c .before .before .before .args .text .now) (c .before .before .before .args .first) (2 * c .before .before .before .args .k) (omega arith) (c .before .before .before .pre))
 
--- src/cells.rt:77:50
 add-names-3 : tie.Need-add-names-3 Inv-loop μ-loop
 add-names-3 c = search needs
 
--- src/cells.rt:77:45
 sub-names : tie.Need-sub-names Inv-loop μ-loop
 sub-names c = search needs
 
--- src/cells.rt:77:66
 mul-names-2 : tie.Need-mul-names-2 Inv-loop μ-loop
 mul-names-2 c = omega (arith, digits-inside (c .before .before .before .args .text .now) (c .before .before .before .args .first) (2 * c .before .before .before .args .k) (omega arith) (c .before .before .before .pre))
 
--- src/cells.rt:77:58
 add-names-4 : tie.Need-add-names-4 Inv-loop μ-loop
 add-names-4 c = omega (arith, digits-inside (c .before .before .before .args .text .now) (c .before .before .before .args .first) (2 * c .before .before .before .args .k) (omega arith) (c .before .before .before .pre))
 
--- src/cells.rt:77:12
 names-requires : tie.Need-names-requires Inv-loop μ-loop
 names-requires c κs = (omega (arith, c .before .before .before .pre, digits-further (c .before .before .before .args .text .now) (c .before .before .before .args .first) (2 * c .before .loop .j) (omega (arith, c .before .before .before .pre))), omega (arith, c .before .before .before .pre, digits-further (c .before .before .before .args .text .now) (c .before .before .before .args .first) (2 * (c .before .loop .j + 1)) (omega (arith, c .before .before .before .pre))))
 
--- src/cells.rt:78:13
 returns : tie.Need-returns Inv-loop μ-loop
 returns c = left-stop (c .before .before .before .loop .inv) false _ (c .before .before .loop-test .taken) refl (differ-stop _ _ (sym (c .before .names .ensures) ∙ c .if1 .taken))
 
--- src/cells.rt:80:9
 add-j : tie.Need-add-j Inv-loop μ-loop
 add-j c = search needs
 
--- src/cells.rt:76:5
 loop-less : tie.Need-loop-less Inv-loop μ-loop
 loop-less c = search needs
 
--- src/cells.rt:76:5
 loop-again : tie.Need-loop-again Inv-loop μ-loop
 loop-again c = left-turn (c .before .before .before .loop .inv) _ _ (c .before .before .loop-test .taken) refl (differ-turn _ _ (sym (c .before .names .ensures) ∙ c .if1 .left))
 
--- src/cells.rt:71:1
 returns-2 : tie.Need-returns-2 Inv-loop μ-loop
 unfolding repeats
 returns-2 c = left-end (c .before .loop .inv) true (c .loop-test .left) refl

@@ -2,8 +2,7 @@ use Prim.Native.Nat.{_-_, _*_}
 use native.Mathlib.Omega.{arith}
 use borrow.Author.Needs.{needs}
 use mathlib.Core.Path.{refl, sym, _∙_}
-use mathlib.Core.Bool.{Bool, true, false}
-use borrow.Author.Tests.{eqb-true, eqb-false}
+use mathlib.Core.Bool.{true, false}
 use Rattle.rules.specs.Basics.{mem}
 use Rattle.lines.specs.Line.{byteAt, bytesFrom}
 use Rattle.row.proofs.Digits.{digits-inside, digits-further}
@@ -20,39 +19,30 @@ Inv-loop text first k at j₀ j = Left (mem (byteAt text at)) (mem (byteAt text 
 abbrev μ-loop : tie.MeasureT-loop
 μ-loop text first k at j₀ j = k - j
 
--- src/cells.rt:61:5
 loop-holds : tie.Need-loop-holds Inv-loop μ-loop
 loop-holds c = left-start _ _ _ _
 
--- src/cells.rt:62:36
 mul-alike : tie.Need-mul-alike Inv-loop μ-loop
 mul-alike c = omega (arith, digits-inside (c .before .before .before .args .text .now) (c .before .before .before .args .first) (2 * c .before .before .before .args .k) (omega arith) (c .before .before .before .pre .1))
 
--- src/cells.rt:62:28
 add-alike : tie.Need-add-alike Inv-loop μ-loop
 add-alike c = omega (arith, digits-inside (c .before .before .before .args .text .now) (c .before .before .before .args .first) (2 * c .before .before .before .args .k) (omega arith) (c .before .before .before .pre .1))
 
--- src/cells.rt:62:12
 alike-requires : tie.Need-alike-requires Inv-loop μ-loop
 alike-requires c κs = (c .before .before .before .pre .0, omega (arith, c .before .before .before .pre .1, digits-further (c .before .before .before .args .text .now) (c .before .before .before .args .first) (2 * c .before .loop .j) (omega (arith, c .before .before .before .pre .1))))
 
--- src/cells.rt:63:13
 returns : tie.Need-returns Inv-loop μ-loop
 returns c = left-stop (c .before .before .before .loop .inv) true _ (c .before .before .loop-test .taken) refl (mem-stop _ _ _ (sym (c .before .alike .ensures) ∙ c .if1 .taken))
 
--- src/cells.rt:65:9
 add-j : tie.Need-add-j Inv-loop μ-loop
 add-j c = search needs
 
--- src/cells.rt:61:5
 loop-less : tie.Need-loop-less Inv-loop μ-loop
 loop-less c = search needs
 
--- src/cells.rt:61:5
 loop-again : tie.Need-loop-again Inv-loop μ-loop
 loop-again c = left-turn (c .before .before .before .loop .inv) _ _ (c .before .before .loop-test .taken) refl (mem-turn _ _ _ (sym (c .before .alike .ensures) ∙ c .if1 .left))
 
--- src/cells.rt:56:1
 returns-2 : tie.Need-returns-2 Inv-loop μ-loop
 unfolding mem
 returns-2 c = left-end (c .before .loop .inv) false (c .loop-test .left) refl

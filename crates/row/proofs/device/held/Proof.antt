@@ -6,15 +6,12 @@ use Rattle.row.proofs.device.held.Tie as tie
 use Rattle.row.proofs.device.held.Reads as reads
 use Rattle.row.proofs.device.held.Lts as lts
 
--- src/device.rt:49:16
 shared-slice-read-result : tie.Need-shared-slice-read-result
 shared-slice-read-result c = search needs
 
--- src/device.rt:49:9
 returns : tie.Need-returns
 returns c = search needs
 
--- src/device.rt:45:1
 returns-2 : tie.Need-returns-2
 returns-2 c = sym (past (c .before .args .row .now) _ (c .if1 .left))
 

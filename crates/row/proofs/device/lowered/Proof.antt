@@ -6,12 +6,10 @@ use Rattle.row.proofs.device.lowered.Tie as tie
 use Rattle.row.proofs.device.lowered.Reads as reads
 use Rattle.row.proofs.device.lowered.Lts as lts
 
--- src/device.rt:75:9
 returns : tie.Need-returns
 unfolding lower pick
 returns c = rw (ne-eqb _ _ (c .if1 .taken))
 
--- src/device.rt:71:1
 returns-2 : tie.Need-returns-2
 unfolding lower pick
 returns-2 c = rw (eq-eqb _ _ (c .if1 .left))

@@ -12,51 +12,39 @@ use Rattle.row.proofs.device.held.Reads as held-reads
 use Rattle.row.proofs.device.nor.Reads as nor-reads
 use Rattle.row.proofs.device.written.Reads as written-reads
 
--- src/device.rt:115:9
 cell-at-requires : tie.Need-cell-at-requires
 cell-at-requires c κs = search needs
 
--- src/device.rt:116:21
 enum-known-n : tie.Need-enum-known-n
 enum-known-n c = search needs
 
--- src/device.rt:117:16
 enum-told : tie.Need-enum-told
 enum-told c = search needs
 
--- src/device.rt:117:16
 add-result : tie.Need-add-result
 add-result c = search needs
 
--- src/device.rt:117:9
 returns : tie.Need-returns
 returns c = nor-none _ _ _ (c .before .before .cell-at .ensures) _ (c .enum-told .given .1)
 
--- src/device.rt:119:23
 add-nor : tie.Need-add-nor
 add-nor c = search needs
 
--- src/device.rt:119:9
 nor-requires : tie.Need-nor-requires
 nor-requires c κs = omega (arith, walk-inside (c .before .before .before .before .before .before .before .args .text .now) _ _ _ (c .before .before .before .before .cell-at .ensures) (c .before .before .n .given .1))
 
--- src/device.rt:120:21
 held-requires : tie.Need-held-requires
 held-requires c κs = search needs
 
--- src/device.rt:120:9
 written-requires : tie.Need-written-requires
 written-requires c κs = search needs
 
--- src/device.rt:121:5
 put-requires : tie.Need-put-requires
 put-requires c κs = search needs
 
--- src/device.rt:111:1
 same-length : tie.Need-same-length
 same-length c = search needs
 
--- src/device.rt:111:1
 returns-2 : tie.Need-returns-2
 returns-2 c = nor-one _ _ _ (c .before .before .before .before .before .before .before .before .before .before .before .before .cell-at .ensures) _ _ _ _ _ _ (c .before .before .before .before .before .before .before .before .before .before .n .given .1) (c .before .before .before .before .before .before .before .nor .ensures) (c .before .before .before .before .before .held .ensures) (c .before .before .before .before .written .ensures) (c .before .before .put .ensures)
 

@@ -20,48 +20,37 @@ Inv-loop text first row₀ at₀ row at = Walk (λ l. setAll 1 l row) (setAll 1 
 abbrev μ-loop : tie.MeasureT-loop
 μ-loop text first row₀ at₀ row at = length text + 2 - at
 
--- src/device.rt:60:5
 loop-holds : tie.Need-loop-holds Inv-loop μ-loop
 loop-holds c = (walk-start _ _ _ (c .before .before .pre), refl)
 
--- src/device.rt:61:13
 cell-at-requires : tie.Need-cell-at-requires Inv-loop μ-loop
 cell-at-requires c κs = search needs
 
--- src/device.rt:62:25
 enum-known-n : tie.Need-enum-known-n Inv-loop μ-loop
 enum-known-n c = search needs
 
--- src/device.rt:63:20
 enum-told : tie.Need-enum-told Inv-loop μ-loop
 enum-told c = search needs
 
--- src/device.rt:63:20
 add-result : tie.Need-add-result Inv-loop μ-loop
 add-result c = search needs
 
--- src/device.rt:63:13
 same-length : tie.Need-same-length Inv-loop μ-loop
 same-length c = search needs
 
--- src/device.rt:63:13
 returns : tie.Need-returns Inv-loop μ-loop
 unfolding setAll
 returns c = set-ends _ _ _ _ _ (walk-end (c .before .before .before .loop .inv .0) _ (c .before .before .cell-at .ensures) (c .enum-told .given .1) _ refl)
 
--- src/device.rt:65:9
 put-requires : tie.Need-put-requires Inv-loop μ-loop
 put-requires c κs = search needs
 
--- src/device.rt:66:9
 add-at : tie.Need-add-at Inv-loop μ-loop
 add-at c = omega (arith, walk-inside (c .before .before .before .before .before .before .before .before .before .before .before .args .text .now) _ _ _ (c .before .before .before .before .before .before .before .cell-at .ensures) (c .before .before .before .before .before .n .given .1))
 
--- src/device.rt:60:5
 loop-less : tie.Need-loop-less Inv-loop μ-loop
 loop-less c = omega (arith, walk-inside (c .before .before .before .before .before .before .before .before .before .before .before .args .text .now) _ _ _ (c .before .before .before .before .before .before .before .cell-at .ensures) (c .before .before .before .before .before .n .given .1))
 
--- src/device.rt:60:5
 loop-again : tie.Need-loop-again Inv-loop μ-loop
 loop-again c = (walk-turn (c .before .before .before .before .before .before .before .before .loop .inv .0) _ (c .before .before .before .before .before .before .before .cell-at .ensures) _ _ (c .before .before .before .before .before .n .given .1) (set-turn _ _ _ _ (c .before .before .put .ensures)), search needs)
 

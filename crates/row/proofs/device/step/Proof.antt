@@ -8,43 +8,33 @@ use Rattle.lines.proofs.byte_at.Reads as byte-at-reads
 use Rattle.row.proofs.device.nor_cells.Reads as nor-cells-reads
 use Rattle.row.proofs.device.set_cells.Reads as set-cells-reads
 
--- src/device.rt:130:9
 returns : tie.Need-returns
 returns c = step-past _ _ _ (c .if1 .taken)
 
--- src/device.rt:132:8
 byte-at-requires : tie.Need-byte-at-requires
 byte-at-requires c κs = search needs
 
--- src/device.rt:133:32
 add-set-cells : tie.Need-add-set-cells
 add-set-cells c = search needs
 
--- src/device.rt:133:9
 set-cells-requires : tie.Need-set-cells-requires
 set-cells-requires c κs = search needs
 
--- src/device.rt:133:9
 same-length : tie.Need-same-length
 same-length c = search needs
 
--- src/device.rt:133:9
 returns-2 : tie.Need-returns-2
 returns-2 c = step-set _ _ _ (c .before .before .before .before .before .before .if1 .left) _ _ _ (c .before .before .before .before .before .byte-at .ensures) (c .before .before .before .before .if2 .taken) (c .before .before .set-cells .ensures)
 
--- src/device.rt:135:21
 add-nor-cells : tie.Need-add-nor-cells
 add-nor-cells c = search needs
 
--- src/device.rt:135:5
 nor-cells-requires : tie.Need-nor-cells-requires
 nor-cells-requires c κs = search needs
 
--- src/device.rt:126:1
 same-length-2 : tie.Need-same-length-2
 same-length-2 c = search needs
 
--- src/device.rt:126:1
 returns-3 : tie.Need-returns-3
 returns-3 c = step-nor _ _ _ (c .before .before .before .before .before .before .if1 .left) _ _ _ (c .before .before .before .before .before .byte-at .ensures) (c .before .before .before .before .if2 .left) (c .before .before .nor-cells .ensures)
 

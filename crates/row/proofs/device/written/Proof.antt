@@ -6,12 +6,10 @@ use Rattle.row.proofs.device.written.Tie as tie
 use Rattle.row.proofs.device.written.Reads as reads
 use Rattle.row.proofs.device.written.Lts as lts
 
--- src/device.rt:105:9
 returns : tie.Need-returns
 unfolding writtenOf pick
 returns c = rw (ne-eqb _ _ (c .if1 .taken))
 
--- src/device.rt:101:1
 returns-2 : tie.Need-returns-2
 unfolding writtenOf pick
 returns-2 c = rw (eq-eqb _ _ (c .if1 .left))
