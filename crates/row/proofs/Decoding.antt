@@ -1,114 +1,182 @@
--- Instructions decoded from a text: where they stand, and that lines which read well say the same.
+-- The cells of a line: one at a place, a walk from one to the next, and the bytes of a good line.
 use Prim.Native.Nat.{ℕ, zero, suc, _+_, _-_, _*_, _/_, _%_, _<_, _≤_}
 use native.Mathlib.Omega.{arith}
+use native.Mathlib.Numerals.{add-one}
+use native.Mathlib.Decide.{decLt}
 use mathlib.Core.Path.{_≡_, refl, sym, ap, _∙_}
-use mathlib.Core.Bool.{Bool, true, false, _&&_, not}
+use mathlib.Core.Bool.{Bool, true, false, _&&_}
 use mathlib.Core.List.{List, [], _∷_}
-use mathlib.Core.Option.{Option, none, some}
-use lib.Dec.{eqb, ltb, leb}
-use lib.ListN.{length}
-use borrow.Author.Tests.{eq-eqb, ne-eqb, leb-true}
-use Rattle.rules.specs.declared.Refusal.{Refusal}
-use Rattle.rules.specs.Basics.{pick, all, repeats, ascending}
-use Rattle.rules.specs.Form.{form01, one, two}
-use Rattle.rules.specs.Refusals.{Res, good, refused, refuse, _>>=_, _>>_, require, orRefuse}
-use Rattle.rules.specs.Lines.{fields, also, numbers}
-use Rattle.rules.specs.Netlist.{due}
-use Rattle.rules.specs.Sequence as rules
-use Rattle.rules.specs.Sequence.{Set, Nor, norFrom, setOf, norOf, instructionOf, placeOf}
-use Rattle.rules.proofs.Laws.{no-way, and-true, require-good}
-use Rattle.lines.specs.declared.Line.{Line}
-use Rattle.lines.specs.declared.Line.the-variants.{Frame, Refused}
+use lib.Dec.{eqb, leb}
+use lib.ListN.{getD, length, drop, drop-of-length-le}
+use lib.Seq.{drop-cons, getD-drop}
+use borrow.Author.Tests.{eq-eqb, ne-eqb, eqb-true, lt-leb}
+use Rattle.rules.specs.Basics.{pick}
+use Rattle.rules.specs.Form.{form01}
+use Rattle.rules.specs.Lines.{isDigit, digits, isLine}
+use Rattle.rules.specs.Sequence.{Set}
+use Rattle.rules.proofs.Laws.{no-way, and-true}
+use Rattle.lines.specs.declared.Line.the-variants.{Frame}
 use Rattle.lines.specs.Line.{lineAt, byteAt, bytesFrom}
-use Rattle.lines.proofs.Meaning.{Fits, frame-fits, numbers-one}
-use Rattle.row.specs.declared.Instruction.{Instruction}
-use Rattle.row.specs.Decoded.{instructionFrom, instructionAt, instructionIn}
-use Rattle.row.proofs.Judging.{length-bytes}
-use Rattle.row.proofs.Framed.{kind-first}
+use Rattle.lines.proofs.Laws.{byte-small}
+use Rattle.lines.proofs.Meaning.{frame-fits}
+use Rattle.row.specs.declared.Entry.{Entry}
+use Rattle.row.specs.Decoded.{cellsIn, cellsFrom, firstOf, cellAt, endFrom, norOn, instructionAt, nextAt}
+use Rattle.row.proofs.Digits.{digit-in, digits-further, no-feed}
+
+-- ---- one cell
 
 module _ (text : List ℕ) (at : ℕ) where
-  pub decoded-none : (l : Line) (r : Refusal) → l ≡ lineAt text at → l ≡ Refused r
-      → _≡_ {A = Instruction} (record { set = true; first = 0; cells = 0; next = at }) (instructionAt text at)
-  unfolding instructionAt instructionFrom
-  decoded-none l r e f = rw (← e, f)
+  cells-open : at + 1 < length text → cellsFrom text at ≡ pick (eqb (getD text at 0) 10) [] (byteAt text at ∷ cellsFrom text (at + 2))
+  unfolding cellsFrom cellsIn byteAt
+  cells-open h =
+      let a : drop at text ≡ getD text at 0 ∷ drop (at + 1) text = rw add-one (drop-cons text at 0 (omega arith)) in
+      let b : drop (at + 1) text ≡ getD text (at + 1) 0 ∷ drop (suc (at + 1)) text = drop-cons text (at + 1) 0 h in
+      let e : suc (at + 1) ≡ at + 2 = omega arith in
+      rw (a, b, e)
 
-  pub decoded : (n k : ℕ) → k ≡ byteAt text at → lineAt text at ≡ Frame n
-      → _≡_ {A = Instruction} (record { set = eqb k 18; first = at + 2; cells = n / 2 - 1; next = at + n + 1 }) (instructionAt text at)
-  unfolding instructionAt instructionFrom
-  decoded n k kind e = rw (e, kind)
-
-  -- the digits of an instruction's cells stand inside the text
-  pub cells-inside : instructionAt text at .first + 2 * (instructionAt text at .cells) ≤ length text
-  unfolding instructionAt instructionFrom
-  cells-inside = go (lineAt text at) refl
+  cells-short : length text ≤ at + 1 → cellsFrom text at ≡ []
+  unfolding cellsFrom cellsIn
+  cells-short h = go (decLt at (length text))
     where
-      go : (l : Line) → lineAt text at ≡ l → instructionFrom text at l .first + 2 * (instructionFrom text at l .cells) ≤ length text
-      go (Frame n) e = let f = frame-fits text at n e in omega (arith, f .inside, f .least)
-      go (Refused r) e = omega arith
+      go : Dec (at < length text) → cellsIn (drop at text) ≡ []
+      go (yes l) =
+          let e : drop (suc at) text ≡ [] = drop-of-length-le text {i = suc at} (omega arith) in
+          rw (drop-cons text at 0 l, e)
+      go (no l) = rw (drop-of-length-le text {i = at} (omega arith))
 
--- ---- what lines that read well say
+  pub cell-past : length text ≤ at + 1 → Entry.End ≡ cellAt text at
+  unfolding cellAt firstOf
+  cell-past h = rw (cells-short h)
 
-module _ (row : ℕ) (l : List ℕ) (a : rules.Instruction) where
-  set-said : setOf form01 row l ≡ good a → a ≡ Set l
-  unfolding setOf form01 orRefuse _>>=_
-  set-said e =
-      let p = rw (numbers-one l) at e in
-      let q = require-good (leb 1 (length l) && leb (length l) 256) 2 _ a p in
-      let s = require-good (ascending l) 5 _ a (q .1) in
-      let t = require-good (all (λ c. ltb c row) l) 12 _ a (s .1) in
-      let z : good (Set l) ≡ good a = t .1 in
-      cc
+  module _ (h : at + 1 < length text) where
+    pub cell-feed : getD text at 0 ≡ 10 → Entry.End ≡ cellAt text at
+    unfolding cellAt firstOf pick
+    cell-feed e = rw (cells-open h, eq-eqb (getD text at 0) 10 e)
 
-  nor-said : norOf form01 row l ≡ good a → (a ≡ norFrom l) × (2 ≤ length l)
-  unfolding norOf form01 orRefuse _>>=_
-  nor-said e =
-      let p = rw (numbers-one l) at e in
-      let q = require-good (leb 2 (length l) && leb (length l) 5) 2 _ a p in
-      let s = require-good (not (repeats l)) 5 _ a (q .1) in
-      let t = require-good (all (λ c. ltb c row) l) 12 _ a (s .1) in
-      let z : good (norFrom l) ≡ good a = t .1 in
-      (cc, leb-true 2 (length l) (and-true (leb 2 (length l)) (leb (length l) 5) (q .0) .0))
+    pub cell-named : (b : ℕ) → (getD text at 0 ≡ 10 → ⊥) → b ≡ byteAt text at → Entry.Cell b ≡ cellAt text at
+    unfolding cellAt firstOf pick
+    cell-named b n e = rw (cells-open h, ne-eqb (getD text at 0) 10 n, e)
 
-norFrom-bytes : (text : List ℕ) (at m : ℕ) → 1 ≤ m → norFrom (bytesFrom text at m) ≡ Nor (byteAt text at) (bytesFrom text (at + 2) (m - 1))
-unfolding norFrom bytesFrom
-norFrom-bytes text at zero h = absurd (omega arith)
-norFrom-bytes text at (suc m) h = let e : suc m - 1 ≡ m = omega arith in rw e
-
-module _ (row : ℕ) (text : List ℕ) (at n : ℕ) (e : lineAt text at ≡ Frame n) where
-  -- an instruction that reads well is what stands at the place, and the next line begins behind it
-  pub instruction-said : (a : rules.Instruction) → instructionOf form01 row (bytesFrom text at (n / 2)) ≡ good a
-      → (a ≡ instructionIn text (instructionAt text at)) × (at + n + 1 ≡ instructionAt text at .next)
-  unfolding instructionOf form01 pick instructionAt instructionFrom instructionIn
-  instruction-said a g =
-      rw e (go (eqb (byteAt text at) 18) (eqb (byteAt text at) 19) (rw (kind-first text at n (frame-fits text at n e)) at g), refl)
+  -- a named cell is followed by those two places further
+  pub named : (c : ℕ) → cellAt text at ≡ Entry.Cell c → (cellsFrom text at ≡ c ∷ cellsFrom text (at + 2)) × (at + 2 ≤ length text)
+  unfolding cellAt firstOf pick
+  named c e = go (decLt (at + 1) (length text)) e
     where
-      l : List ℕ
-      l = bytesFrom text (at + 2) (n / 2 - 1)
+      fed : (t : Bool) → firstOf (pick t [] (byteAt text at ∷ cellsFrom text (at + 2))) ≡ Entry.Cell c
+          → pick t [] (byteAt text at ∷ cellsFrom text (at + 2)) ≡ c ∷ cellsFrom text (at + 2)
+      fed true f = absurd (no-way (cc))
+      fed false f = cc
 
-      go : (t u : Bool) → pick t (setOf form01 row l) (pick u (norOf form01 row l) (refuse 2)) ≡ good a
-          → a ≡ pick t (Set l) (Nor (byteAt text (at + 2)) (bytesFrom text (at + 2 + 2) (n / 2 - 1 - 1)))
-      go true u h = set-said row l a h
-      go false true h =
-          let s = nor-said row l a h in
-          s .0 ∙ norFrom-bytes text (at + 2) (n / 2 - 1) (omega (arith, s .1, length-bytes text (at + 2) (n / 2 - 1)))
-      go false false h = absurd (no-way (cc))
+      go : Dec (at + 1 < length text) → firstOf (cellsFrom text at) ≡ Entry.Cell c → (cellsFrom text at ≡ c ∷ cellsFrom text (at + 2)) × (at + 2 ≤ length text)
+      go (yes h) f = (cells-open h ∙ fed (eqb (getD text at 0) 10) (rw (cells-open h) at f), omega arith)
+      go (no h) f = absurd (no-way (let z = cells-short (omega arith) in cc))
 
-  place-bytes : (p m a : ℕ) → placeOf form01 row (byteAt text at ∷ bytesFrom text p m) ≡ good a → (m ≡ 1) × (a ≡ byteAt text p)
-  unfolding placeOf form01 due pick orRefuse fields also bytesFrom _>>=_
-  place-bytes p m a g = go (eqb (byteAt text at) 20) m g
+  -- it is the byte whose digits stand there
+  pub cell-small : (c : ℕ) → cellAt text at ≡ Entry.Cell c → c ≤ 255
+  unfolding cellAt firstOf pick
+  cell-small c e = go (decLt (at + 1) (length text)) e
     where
-      go : (t : Bool) (m : ℕ)
-          → (pick t (good (bytesFrom text p m)) (refuse 2) >>= (λ l. orRefuse 2 (fields (one ∷ []) l) >>= (λ ns. require (ltb (lib.ListN.getD ns 0 0) row) 12 >> good (lib.ListN.getD ns 0 0)))) ≡ good a
-          → (m ≡ 1) × (a ≡ byteAt text p)
-      go false m h = absurd (no-way (cc))
-      go true zero h = absurd (no-way (cc))
-      go true (suc zero) h =
-          let q = require-good (ltb (byteAt text p) row) 12 (good (byteAt text p)) a h in
-          (refl, (let z : good (byteAt text p) ≡ good a = q .1 in cc))
-      go true (suc (suc m)) h = absurd (no-way (cc))
+      fed : (t : Bool) → firstOf (pick t [] (byteAt text at ∷ cellsFrom text (at + 2))) ≡ Entry.Cell c → byteAt text at ≡ c
+      fed true f = absurd (no-way (cc))
+      fed false f = cc
 
-  pub place-said : (a : ℕ) → placeOf form01 row (bytesFrom text at (n / 2)) ≡ good a → (a ≡ byteAt text (at + 2)) × (at + n + 1 ≡ at + 5)
-  place-said a g =
+      go : Dec (at + 1 < length text) → firstOf (cellsFrom text at) ≡ Entry.Cell c → c ≤ 255
+      go (yes h) f = rw (← fed (eqb (getD text at 0) 10) (rw (cells-open h) at f)) (byte-small text at)
+      go (no h) f = absurd (no-way (let z = cells-short (omega arith) in cc))
+
+  pub ended : cellAt text at ≡ Entry.End → cellsFrom text at ≡ []
+  unfolding cellAt firstOf
+  ended e = go (cellsFrom text at) e
+    where
+      go : (l : List ℕ) → firstOf l ≡ Entry.End → l ≡ []
+      go [] f = refl
+      go (c ∷ l) f = absurd (no-way (cc))
+
+-- ---- the instruction at a place, by its kind
+
+module _ (text : List ℕ) (at : ℕ) (h : at < length text) where
+  pub set-at : byteAt text at ≡ 18 → instructionAt text at ≡ Set (cellsFrom text (at + 2))
+  unfolding instructionAt pick
+  set-at e = rw (lt-leb (length text) at h, eq-eqb (byteAt text at) 18 e)
+
+  pub nor-at : (byteAt text at ≡ 18 → ⊥) → instructionAt text at ≡ norOn (cellsFrom text (at + 2))
+  unfolding instructionAt pick
+  nor-at e = rw (lt-leb (length text) at h, ne-eqb (byteAt text at) 18 e)
+
+  pub next-at : nextAt text at ≡ endFrom text (at + 2) + 1
+  unfolding nextAt pick
+  next-at = rw (lt-leb (length text) at h)
+
+-- ---- a walk from cell to cell
+
+-- what f gives of the cells from a place on is the answer a, and they end where the first ones do
+pub record Walk {A : Type 0} (f : List ℕ → A) (a : A) (text : List ℕ) (first at : ℕ) : Type 0 where
+  pub same : f (cellsFrom text at) ≡ a
+  pub stop : endFrom text at ≡ endFrom text first
+  pub inside : at ≤ length text + 1
+
+pub walk-start : {A : Type 0} (f : List ℕ → A) (text : List ℕ) (first : ℕ) → first ≤ length text + 1 → Walk f (f (cellsFrom text first)) text first first
+walk-start f text first h = record { same = refl; stop = refl; inside = h }
+
+pub walk-inside : (text : List ℕ) (at c : ℕ) (n : Entry) → n ≡ cellAt text at → n ≡ Entry.Cell c → at + 2 ≤ length text
+walk-inside text at c n e q = named text at c (sym e ∙ q) .1
+
+module _ {A : Type 0} {f : List ℕ → A} {a : A} {text : List ℕ} {first at : ℕ} (walk : Walk f a text first at) (n : Entry) (here : n ≡ cellAt text at) where
+  pub walk-turn : (g : List ℕ → A) (c : ℕ) → n ≡ Entry.Cell c → f (c ∷ cellsFrom text (at + 2)) ≡ g (cellsFrom text (at + 2)) → Walk g a text first (at + 2)
+  unfolding endFrom
+  walk-turn g c q turn =
+      let z = named text at c (sym here ∙ q) in
+      record {
+        same = sym turn ∙ ap f (sym (z .0)) ∙ walk .same;
+        stop =
+            let l : length (cellsFrom text at) ≡ suc (length (cellsFrom text (at + 2))) = ap length (z .0) in
+            let e : at + 2 + 2 * length (cellsFrom text (at + 2)) ≡ at + 2 * length (cellsFrom text at) = omega arith in
+            e ∙ walk .stop;
+        inside = omega (arith, z .1);
+      }
+
+  pub walk-end : n ≡ Entry.End → (v : A) → f [] ≡ v → (at ≡ endFrom text first) × (v ≡ a)
+  unfolding endFrom
+  walk-end q v e =
+      let z = ended text at (sym here ∙ q) in
+      let l : _≡_ {A = ℕ} (length (cellsFrom text at)) 0 = ap length z in
+      let s : at ≡ at + 2 * length (cellsFrom text at) = omega arith in
+      (s ∙ walk .stop, sym e ∙ ap f (sym z) ∙ walk .same)
+
+-- ---- the cells of a good line are its bytes
+
+cells-are : (text : List ℕ) (k p : ℕ) → 2 * k ≤ digits (drop p text) → p + 2 * k < length text → getD text (p + 2 * k) 0 ≡ 10 → cellsFrom text p ≡ bytesFrom text p k
+unfolding bytesFrom pick
+cells-are text zero p d h e = go (decLt (p + 1) (length text))
+  where
+    go : Dec (p + 1 < length text) → cellsFrom text p ≡ []
+    go (yes l) =
+        let z : getD text p 0 ≡ 10 = (let i : p + 2 * 0 ≡ p = omega arith in rw i at e) in
+        rw (cells-open text p l, eq-eqb (getD text p 0) 10 z)
+    go (no l) = cells-short text p (omega arith)
+cells-are text (suc k) p d h e =
+    let i : p + 2 * suc k ≡ p + 2 + 2 * k = omega arith in
+    let z : p + 0 ≡ p = omega arith in
+    let c : isDigit (getD text p 0) ≡ true = ap isDigit (sym (getD-drop p text 0 0 ∙ ap (λ i. getD text i 0) z)) ∙ digit-in (drop p text) 0 (omega arith) in
+    let m : 2 * k ≤ digits (drop (p + 2) text) = omega (arith, digits-further text p 2 (omega arith)) in
+    rw (cells-open text p (omega arith), ne-eqb (getD text p 0) 10 (no-feed (getD text p 0) c), cells-are text k (p + 2) m (omega arith) (rw i at e))
+
+module _ (text : List ℕ) (at n : ℕ) (e : lineAt text at ≡ Frame n) where
+  fed : getD text (at + n) 0 ≡ 10
+  unfolding isLine form01
+  fed =
       let f = frame-fits text at n e in
-      let b = place-bytes (at + 2) (n / 2 - 1) a (rw (kind-first text at n f) at g) in
-      (b .1, omega (arith, b .0, f .even, f .least))
+      let d = digits (drop at text) in
+      let a = and-true (eqb (getD (drop at text) d 0) 10) (eqb (d % 2) 0 && (leb 2 d && leb d 514)) (f .good) in
+      sym (getD-drop at text n 0) ∙ (rw (f .is) at (eqb-true (getD (drop at text) d 0) 10 (a .0)))
+
+  pub line-digits : 2 * (n / 2 - 1) ≤ digits (drop (at + 2) text)
+  line-digits =
+      let f = frame-fits text at n e in
+      omega (arith, f .even, f .least, f .is, digits-further text at 2 (omega (arith, f .is, f .least)))
+
+  pub line-cells : cellsFrom text (at + 2) ≡ bytesFrom text (at + 2) (n / 2 - 1)
+  line-cells =
+      let f = frame-fits text at n e in
+      let i : at + n ≡ at + 2 + 2 * (n / 2 - 1) = omega (arith, f .even, f .least) in
+      cells-are text (n / 2 - 1) (at + 2) line-digits (omega (arith, f .inside, i)) (rw i at fed)

@@ -1,27 +1,26 @@
 -- What the line at a place answers, by the rule for its kind.
-use Prim.Native.Nat.{ℕ, zero, suc, _+_, _-_, _*_, _/_, _%_, _<_, _≤_}
+use Prim.Native.Nat.{ℕ, suc, _+_, _-_, _*_, _/_}
 use native.Mathlib.Omega.{arith}
-use mathlib.Core.Path.{_≡_, refl, sym, ap, _∙_}
-use mathlib.Core.Bool.{Bool, true, false, _&&_}
+use mathlib.Core.Path.{_≡_, refl, sym, ap}
+use mathlib.Core.Bool.{Bool, true, false}
 use mathlib.Core.List.{List, [], _∷_}
-use mathlib.Core.Option.{Option, none, some}
-use lib.Dec.{eqb, ltb}
+use mathlib.Core.Option.{none}
+use lib.Dec.{ltb}
 use lib.ListN.{length}
-use borrow.Author.Tests.{lt-ltb, le-ltb, eq-eqb, ne-eqb}
+use borrow.Author.Tests.{eq-eqb, ne-eqb}
 use Rattle.rules.specs.declared.Refusal.{Refusal}
 use Rattle.rules.specs.declared.Answer.{Answer}
-use Rattle.rules.specs.Basics.{pick, within}
+use Rattle.rules.specs.Basics.{pick}
 use Rattle.rules.specs.Form.{form01, Width, one, two}
-use Rattle.rules.specs.Refusals.{Res, good, refused, refuse, _>>=_, _>>_, require, orRefuse}
+use Rattle.rules.specs.Refusals.{Res, good, refuse, _>>=_, _>>_, require, orRefuse}
 use Rattle.rules.specs.Lines.{fields, also}
 use Rattle.rules.specs.Netlist.{due}
-use Rattle.rules.specs.Sequence.{sequenceHeadOf, setOf, norOf, instructionOf, placeOf}
+use Rattle.rules.specs.Sequence.{setOf, norOf, instructionOf, placeOf}
 use Rattle.lines.specs.declared.Line.{Line}
 use Rattle.lines.specs.declared.Line.the-variants.{Frame, Refused}
-use Rattle.lines.specs.Line.{lineAt, byteAt, wordAt, bytesFrom}
+use Rattle.lines.specs.Line.{lineAt, byteAt, bytesFrom}
 use Rattle.lines.proofs.Meaning.{Fits, frame-fits}
-use Rattle.row.specs.declared.Reading.{Reading}
-use Rattle.row.specs.Answers.{afterRule, answerFrom, lineAnswer, headIn, headFrom, headAnswer, numbersFit}
+use Rattle.row.specs.Answers.{afterRule, judgedOf, answerFrom, lineAnswer}
 use Rattle.row.proofs.Judging.{length-bytes}
 
 -- ---- fields of the wrong number
@@ -57,16 +56,7 @@ module _ {A : Type 0} (rule : List ℕ → Res A) (text : List ℕ) (at : ℕ) w
     unfolding lineAnswer answerFrom
     framed = rw (e, kind-first text at n (frame-fits text at n e))
 
-    framed-refused : (m : ℕ) → rule (byteAt text at ∷ bytesFrom text (at + 2) (n / 2 - 1)) ≡ refuse m
-        → Answer.Refused (record { number = m }) ≡ lineAnswer rule text at
-    unfolding afterRule
-    framed-refused m h = sym (rw h at framed)
-
-    framed-good : (a : A) → rule (byteAt text at ∷ bytesFrom text (at + 2) (n / 2 - 1)) ≡ good a → Answer.Given (at + n + 1) ≡ lineAnswer rule text at
-    unfolding afterRule
-    framed-good a h = sym (rw h at framed)
-
--- ---- instructions
+-- ---- instructions and places
 
 module _ (row : ℕ) (text : List ℕ) (at n k : ℕ) (e : lineAt text at ≡ Frame n) (kind : k ≡ byteAt text at) where
   further : at + 2 + 2 * (n / 2 - 1) + 1 ≡ at + n + 1
@@ -86,8 +76,6 @@ module _ (row : ℕ) (text : List ℕ) (at n k : ℕ) (e : lineAt text at ≡ Fr
   unfolding instructionOf form01 pick afterRule
   instruction-other g h = rw (framed (instructionOf form01 row) text at n e, ← kind, ne-eqb k 18 g, ne-eqb k 19 h)
 
-  -- ---- places
-
   pub place-kind : (k ≡ 20 → ⊥) → Answer.Refused (record { number = 2 }) ≡ lineAnswer (placeOf form01 row) text at
   unfolding placeOf form01 due pick afterRule _>>=_
   place-kind h = rw (framed (placeOf form01 row) text at n e, ← kind, ne-eqb k 20 h)
@@ -106,10 +94,11 @@ module _ (row : ℕ) (text : List ℕ) (at n k : ℕ) (e : lineAt text at ≡ Fr
       unfolding bytesFrom
       one-cell = rw (four, cell)
 
-      pub place-past : row ≤ c → Answer.Refused (record { number = 12 }) ≡ lineAnswer (placeOf form01 row) text at
-      unfolding placeOf form01 due pick afterRule _>>=_ _>>_ require orRefuse fields also
-      place-past h = rw (framed (placeOf form01 row) text at n e, ← kind, eq-eqb k 20 is, one-cell, le-ltb c row h)
-
-      pub place-good : c < row → Answer.Given (at + n + 1) ≡ lineAnswer (placeOf form01 row) text at
-      unfolding placeOf form01 due pick afterRule _>>=_ _>>_ require orRefuse fields also
-      place-good h = rw (framed (placeOf form01 row) text at n e, ← kind, eq-eqb k 20 is, one-cell, lt-ltb c row h)
+      -- a place's cell stands alone, so it is in order
+      pub place-one : judgedOf true (ltb c row) (at + n + 1) ≡ lineAnswer (placeOf form01 row) text at
+      unfolding placeOf form01 due pick judgedOf afterRule _>>=_ _>>_ require orRefuse fields also
+      place-one = rw (framed (placeOf form01 row) text at n e, ← kind, eq-eqb k 20 is, one-cell) (go (ltb c row))
+        where
+          go : (t : Bool) → afterRule (require true 5 >> require t 12) (at + n + 1) ≡ afterRule (require t 12 >> good c) (at + n + 1)
+          go true = refl
+          go false = refl

@@ -1,26 +1,24 @@
 -- What the first line answers, by the rule for a sequence's head.
-use Prim.Native.Nat.{ℕ, zero, suc, _+_, _-_, _*_, _/_, _%_, _<_, _≤_}
+use Prim.Native.Nat.{ℕ, _+_, _-_, _/_}
 use native.Mathlib.Omega.{arith}
-use mathlib.Core.Path.{_≡_, refl, sym, ap, _∙_}
+use mathlib.Core.Path.{_≡_, refl, ap}
 use mathlib.Core.Bool.{Bool, true, false, _&&_}
 use mathlib.Core.List.{List, [], _∷_}
-use mathlib.Core.Option.{Option, none, some}
-use lib.Dec.{eqb, ltb, leb}
-use lib.ListN.{length}
+use mathlib.Core.Option.{none, some}
+use lib.Dec.{ltb, leb}
 use borrow.Author.Tests.{eq-eqb, ne-eqb}
 use Rattle.rules.specs.declared.Refusal.{Refusal}
-use Rattle.rules.specs.Basics.{pick, within}
+use Rattle.rules.specs.Basics.{pick}
 use Rattle.rules.specs.Form.{form01, one, two}
-use Rattle.rules.specs.Refusals.{Res, good, refused, refuse, _>>=_, _>>_, require, orRefuse}
+use Rattle.rules.specs.Refusals.{good, refuse, _>>=_, _>>_, require, orRefuse}
 use Rattle.rules.specs.Lines.{fields, also}
 use Rattle.rules.specs.Netlist.{due}
 use Rattle.rules.specs.Sequence.{SequenceHead, sequenceHeadOf}
 use Rattle.lines.specs.declared.Line.{Line}
 use Rattle.lines.specs.declared.Line.the-variants.{Frame, Refused}
 use Rattle.lines.specs.Line.{lineAt, byteAt, wordAt, bytesFrom}
-use Rattle.lines.proofs.Meaning.{Fits, frame-fits}
+use Rattle.lines.proofs.Meaning.{frame-fits}
 use Rattle.row.specs.declared.Reading.{Reading}
-use Rattle.row.specs.declared.Head.{Head}
 use Rattle.row.specs.Answers.{headIn, headFrom, headAnswer, numbersFit}
 use Rattle.row.proofs.Judging.{length-bytes}
 use Rattle.row.proofs.Framed.{kind-first, widths, fields-none}

@@ -1,20 +1,17 @@
 -- What the bytes of a line give by document 01's rule: head, set, NOR and place.
-use Prim.Native.Nat.{ℕ, zero, suc, _+_, _-_, _*_, _/_, _%_, _<_, _≤_}
-use native.Mathlib.Omega.{arith}
-use mathlib.Core.Path.{_≡_, refl, sym, ap, _∙_}
-use mathlib.Core.Bool.{Bool, true, false, _&&_, _||_, not}
-use mathlib.Core.List.{List, [], _∷_}
-use mathlib.Core.Option.{Option, none, some}
-use lib.Dec.{eqb, ltb, leb}
+use Prim.Native.Nat.{ℕ, zero, suc, _+_, _<_, _≤_}
+use mathlib.Core.Path.{_≡_, refl, ap}
+use mathlib.Core.Bool.{Bool, true, false, not}
+use mathlib.Core.List.{List}
+use lib.Dec.{ltb}
 use lib.ListN.{length}
-use borrow.Author.Tests.{lt-leb, le-leb, lt-ltb, le-ltb, eq-eqb, ne-eqb}
-use Rattle.rules.specs.declared.Refusal.{Refusal}
+use borrow.Author.Tests.{lt-leb, le-leb}
 use Rattle.rules.specs.declared.Answer.{Answer}
-use Rattle.rules.specs.Basics.{pick, within, all, repeats, ascending}
+use Rattle.rules.specs.Basics.{within, all, repeats, ascending}
 use Rattle.rules.specs.Form.{form01}
-use Rattle.rules.specs.Refusals.{Res, good, refused, refuse, _>>=_, _>>_, require, orRefuse}
+use Rattle.rules.specs.Refusals.{good, _>>=_, _>>_, require, orRefuse}
 use Rattle.rules.specs.Sequence.{setOf, norOf}
-use Rattle.lines.specs.Line.{byteAt, bytesFrom}
+use Rattle.lines.specs.Line.{bytesFrom}
 use Rattle.lines.proofs.Meaning.{numbers-one}
 use Rattle.row.specs.Answers.{afterRule, judgedOf, numbersFit}
 

@@ -1,14 +1,12 @@
 -- Cells one after another: the work that is left in a loop over k cells of a text.
-use Prim.Native.Nat.{ℕ, zero, suc, _+_, _-_, _*_, _<_, _≤_}
+use Prim.Native.Nat.{ℕ, suc, _+_, _-_, _*_, _<_, _≤_}
 use native.Mathlib.Omega.{arith}
-use mathlib.Core.Path.{_≡_, refl, sym, ap, _∙_}
-use mathlib.Core.Bool.{Bool, true, false, _&&_, _||_, not}
+use mathlib.Core.Path.{_≡_, sym, ap, _∙_}
+use mathlib.Core.Bool.{true, false, not}
 use mathlib.Core.List.{List, [], _∷_}
-use lib.Dec.{eqb, ltb, leb}
-use lib.ListN.{getD, set}
-use borrow.Author.Tests.{lt-ltb, le-ltb, eq-eqb, ne-eqb}
-use Rattle.rules.specs.Basics.{pick, all, mem, repeats, ascending, setAll}
-use Rattle.rules.specs.Values.{nor}
+use lib.Dec.{eqb, ltb}
+use borrow.Author.Tests.{lt-ltb, le-ltb}
+use Rattle.rules.specs.Basics.{all, mem, repeats, ascending}
 use Rattle.lines.specs.Line.{byteAt, bytesFrom}
 
 bytes-turn : (text : List ℕ) (first k j : ℕ) → j < k
@@ -31,10 +29,6 @@ left-start f text first k =
   where
     ap₂ : k - 0 ≡ k → first + 2 * 0 ≡ first → f (bytesFrom text (first + 2 * 0) (k - 0)) ≡ f (bytesFrom text first k)
     ap₂ e p = rw (p, e)
-
--- all but the first
-pub left-second : {A : Type 0} (f : List ℕ → A) (text : List ℕ) (first k : ℕ) → Left f (f (bytesFrom text (first + 2) (k - 1))) text first k 1
-left-second f text first k = record { same = let p : first + 2 * 1 ≡ first + 2 = omega arith in rw p }
 
 -- the cells after cell j
 abbrev pub beyond : List ℕ → ℕ → ℕ → ℕ → List ℕ
@@ -72,13 +66,13 @@ pub all-turn : (row c : ℕ) (l : List ℕ) → c < row → all (λ x. ltb x row
 unfolding all
 all-turn row c l h = rw (lt-ltb c row h)
 
-pub mem-stop : (x c : ℕ) (l : List ℕ) → x ≡ c → mem x (c ∷ l) ≡ true
+pub mem-stop : (x c : ℕ) (l : List ℕ) → eqb x c ≡ true → mem x (c ∷ l) ≡ true
 unfolding mem
-mem-stop x c l h = rw (eq-eqb x c h)
+mem-stop x c l h = rw h
 
-pub mem-turn : (x c : ℕ) (l : List ℕ) → (x ≡ c → ⊥) → mem x (c ∷ l) ≡ mem x l
+pub mem-turn : (x c : ℕ) (l : List ℕ) → eqb x c ≡ false → mem x (c ∷ l) ≡ mem x l
 unfolding mem
-mem-turn x c l h = rw (ne-eqb x c h)
+mem-turn x c l h = rw h
 
 pub differ-stop : (c : ℕ) (l : List ℕ) → mem c l ≡ true → not (repeats (c ∷ l)) ≡ false
 unfolding repeats
@@ -95,15 +89,3 @@ ascend-stop last c l h = rw (le-ltb last c h)
 pub ascend-turn : (last c : ℕ) (l : List ℕ) → last < c → ascending (last ∷ c ∷ l) ≡ ascending (c ∷ l)
 unfolding ascending
 ascend-turn last c l h = rw (lt-ltb last c h)
-
-pub nor-stop : (row : List ℕ) (c v : ℕ) (l : List ℕ) → v ≡ getD row c 0 → (v ≡ 0 → ⊥) → nor row (c ∷ l) ≡ 0
-unfolding nor pick
-nor-stop row c v l e h = rw (← e, ne-eqb v 0 h)
-
-pub nor-turn : (row : List ℕ) (c v : ℕ) (l : List ℕ) → v ≡ getD row c 0 → v ≡ 0 → nor row (c ∷ l) ≡ nor row l
-unfolding nor pick
-nor-turn row c v l e h = rw (← e, eq-eqb v 0 h)
-
-pub set-turn : (row row′ : List ℕ) (c : ℕ) (l : List ℕ) → row′ ≡ set row c 1 → setAll 1 (c ∷ l) row ≡ setAll 1 l row′
-unfolding setAll
-set-turn row row′ c l e = rw e

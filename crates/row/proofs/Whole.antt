@@ -1,14 +1,14 @@
 -- The lines that were read, put together, are the sequence of document 01, or its refusal.
-use Prim.Native.Nat.{ℕ, zero, suc, _+_, _-_, _*_, _/_, _<_, _≤_}
+use Prim.Native.Nat.{ℕ, zero, suc, _+_, _/_}
 use native.Mathlib.Omega.{arith}
 use mathlib.Core.Path.{_≡_, refl, sym, ap, _∙_}
 use mathlib.Core.List.{List, [], _∷_, _++_, append-assoc, append-nil}
-use lib.ListN.{length, drop}
+use lib.ListN.{drop}
 use Rattle.rules.specs.declared.Refusal.{Refusal}
 use Rattle.rules.specs.declared.Answer.{Answer}
 use Rattle.rules.specs.Form.{form01}
 use Rattle.rules.specs.Refusals.{Res, good, refused, _>>=_, _>>_}
-use Rattle.rules.specs.Lines.{line, nothing}
+use Rattle.rules.specs.Lines.{nothing}
 use Rattle.rules.specs.Netlist.{Part, lines}
 use Rattle.rules.specs.Sequence as rules
 use Rattle.rules.specs.Sequence.{SequenceHead, sequenceHeadOf, instructionOf, placeOf, sequenceOf}
@@ -20,8 +20,8 @@ use Rattle.lines.proofs.Meaning.{line-is, line-not, ends-good, ends-refused}
 use Rattle.row.specs.declared.Head.{Head}
 use Rattle.row.specs.declared.Reading.{Reading}
 use Rattle.row.specs.Answers.{afterRule, answerFrom, lineAnswer, onward, linesAnswer, headIn, headFrom, headAnswer}
-use Rattle.row.specs.Decoded.{instructionAt, instructionIn, eachLine, instructionsAt, placesAt, sequenceIn}
-use Rattle.row.proofs.Decoding.{instruction-said, place-said}
+use Rattle.row.specs.Decoded.{instructionAt, nextAt, eachLine, instructionsAt, placesAt, sequenceIn}
+use Rattle.row.proofs.Saying.{next-said, instruction-said, place-said}
 
 -- ---- lines one after another: by their rule, and by what stands there
 
@@ -102,8 +102,8 @@ module _ (text : List ℕ) where
           ≡ partFrom text is (instructionsAt text (h .code) (h .instructions))
       unfolding instructionsAt
       read-instructions =
-          rw instructions (lines-are text (instructionOf form01 (h .row)) (λ at. instructionIn text (instructionAt text at)) (λ at. instructionAt text at .next)
-          (λ at n q. instruction-said (h .row) text at n q) (h .instructions) (h .code) 0 [])
+          rw instructions (lines-are text (instructionOf form01 (h .row)) (instructionAt text) (nextAt text)
+          (λ at n q a g. (instruction-said (h .row) text at n q a g, next-said text at n q)) (h .instructions) (h .code) 0 [])
 
       pub instructions-end : (r : Refusal) → is ≡ Answer.Refused r → refused r ≡ sequenceOf form01 text
       unfolding continued partFrom _>>=_

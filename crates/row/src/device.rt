@@ -1,15 +1,22 @@
 // The row: what one instruction does to it, and a run of so many cycles.
 ghost use mathlib.Core.Path.{_≡_};
-ghost use Prim.Native.Nat.{_+_, _-_, _*_, _≤_, min};
-ghost use lib.ListN.{length, getD, set};
-ghost use Rattle.rules.specs.Basics.{pick, setAll};
-ghost use Rattle.rules.specs.Values.{areBits, nor};
+ghost use Prim.Native.Nat.{_+_, _≤_, min};
+ghost use lib.ListN.{length, getD};
+ghost use Rattle.rules.specs.Basics.{setAll};
+ghost use Rattle.rules.specs.Values.{areBits};
 ghost use Rattle.rules.specs.Device.{execute};
-ghost use Rattle.rules.specs.Sequence.{Nor};
-ghost use Rattle.lines.specs.Line.{byteAt, bytesFrom};
-ghost use Rattle.row.specs.Decoded.{instructionAt, instructionIn};
-ghost use Rattle.row.specs.Runs.{runAt};
+ghost use Rattle.row.specs.Decoded.{cellsFrom, endFrom, norOn, instructionAt, nextAt};
+ghost use Rattle.row.specs.Runs.{operandsAt, lower, writtenOf, runAt};
+use crate::Entry;
+use crate::frames;
 
+// What the operands of a NOR give, and the place of the next line.
+struct Operands {
+    value: u8,
+    next: usize,
+}
+
+// The smaller of two numbers.
 pub(crate) fn smaller(a: usize, b: usize) -> usize
     ensures { λ r. ⌜ r ≡ min a b ⌝ }
 {
@@ -37,7 +44,7 @@ pub(crate) fn are_bits(row: &[u8], n: usize) -> bool
 }
 
 // What a cell holds, 0 past the row's end.
-fn cell(row: &[u8], c: usize) -> u8
+fn held(row: &[u8], c: usize) -> u8
     ensures { λ r. ⌜ r ≡ getD (now (row .entry)) c 0 ⌝ }
 {
     if c < row.len() {
@@ -46,63 +53,88 @@ fn cell(row: &[u8], c: usize) -> u8
     0
 }
 
-// Set puts 1 in each of k named cells.
-fn set_cells(text: &[u8], first: usize, k: usize, row: &mut [u8])
-    requires { ⌜ first + 2 * k ≤ length (now text) ⌝ }
-    ensures { λ _. ⌜ now (row .exit) ≡ setAll 1 (bytesFrom (now (text .entry)) first k) (now (row .entry)) ⌝ }
+// Set puts 1 in each cell named from a place on. The answer is the place of the next line.
+fn set_cells(text: &[u8], first: usize, row: &mut [u8]) -> usize
+    requires { ⌜ first ≤ length (now text) + 1 ⌝ }
+    ensures { λ r. ⌜ (r ≡ endFrom (now (text .entry)) first + 1) × (now (row .exit) ≡ setAll 1 (cellsFrom (now (text .entry)) first) (now (row .entry))) ⌝ }
 {
-    let mut j = 0;
-    while j < k {
-        let c = lines::byte_at(text, first + 2 * j);
+    let mut at = first;
+    loop {
+        let n = crate::cell_at(text, at);
+        let Entry::Cell(c) = n else {
+            return at + 1;
+        };
         lines::write::put(row, c, 1);
-        j += 1;
+        at += 2;
     }
 }
 
-// 1 when all operands are 0: of k cells, those after the first.
-fn all_zero(text: &[u8], first: usize, k: usize, row: &[u8]) -> u8
-    requires { ⌜ first + 2 * k ≤ length (now text) ⌝ }
-    ensures { λ r. ⌜ r ≡ nor (now (row .entry)) (bytesFrom (now (text .entry)) (first + 2) (k - 1)) ⌝ }
+// 0 once an operand holds something else than 0.
+fn lowered(v: u8, held: u8) -> u8
+    ensures { λ r. ⌜ r ≡ lower v held ⌝ }
 {
-    let mut j = 1;
-    while j < k {
-        let c = lines::byte_at(text, first + 2 * j);
-        if cell(row, c) != 0 {
-            return 0;
-        }
-        j += 1;
+    if held != 0 {
+        return 0;
     }
-    1
+    v
 }
 
-// NOR leaves 1 in the written cell only where it held 1 before and all operands are 0.
-fn nor_cell(text: &[u8], first: usize, k: usize, row: &mut [u8])
-    requires { ⌜ first + 2 * k ≤ length (now text) ⌝ }
-    ensures { λ _. ⌜ now (row .exit) ≡ execute (Nor (byteAt (now (text .entry)) first) (bytesFrom (now (text .entry)) (first + 2) (k - 1))) (now (row .entry)) ⌝ }
+// 1 when all operand cells from a place on are 0.
+fn nor(text: &[u8], first: usize, row: &[u8]) -> Operands
+    requires { ⌜ first ≤ length (now text) + 1 ⌝ }
+    ensures { λ r. ⌜ r ≡ operandsAt (now (text .entry)) first (now (row .entry)) ⌝ }
 {
-    let w = lines::byte_at(text, first);
-    if cell(row, w) != 1 {
-        lines::write::put(row, w, 0);
-        return;
+    let mut value = 1;
+    let mut at = first;
+    loop {
+        let n = crate::cell_at(text, at);
+        let Entry::Cell(c) = n else {
+            return Operands {
+                value: value,
+                next: at + 1,
+            };
+        };
+        value = lowered(value, held(row, c));
+        at += 2;
     }
-    let v = all_zero(text, first, k, row);
+}
+
+// What a NOR leaves in its written cell.
+fn written(before: u8, value: u8) -> u8
+    ensures { λ r. ⌜ r ≡ writtenOf before value ⌝ }
+{
+    if before != 1 {
+        return 0;
+    }
+    value
+}
+
+// NOR leaves 1 in the written cell only where it held 1 before and all operands are 0. The answer is the place of the next line.
+fn nor_cells(text: &[u8], first: usize, row: &mut [u8]) -> usize
+    requires { ⌜ first ≤ length (now text) + 1 ⌝ }
+    ensures { λ r. ⌜ (r ≡ endFrom (now (text .entry)) first + 1) × (now (row .exit) ≡ execute (norOn (cellsFrom (now (text .entry)) first)) (now (row .entry))) ⌝ }
+{
+    let n = crate::cell_at(text, first);
+    let Entry::Cell(w) = n else {
+        return first + 1;
+    };
+    let o = nor(text, first + 2, row);
+    let v = written(held(row, w), o.value);
     lines::write::put(row, w, v);
+    o.next
 }
 
 // One cycle: the instruction at a place works on the row. The answer is the place of the next line.
 fn step(text: &[u8], at: usize, row: &mut [u8]) -> usize
-    ensures { λ r. ⌜ (r ≡ instructionAt (now (text .entry)) at .next)
-        × (now (row .exit) ≡ execute (instructionIn (now (text .entry)) (instructionAt (now (text .entry)) at)) (now (row .entry))) ⌝ }
+    ensures { λ r. ⌜ (r ≡ nextAt (now (text .entry)) at) × (now (row .exit) ≡ execute (instructionAt (now (text .entry)) at) (now (row .entry))) ⌝ }
 {
-    let i = crate::instruction_at(text, at);
-    let first = i.first;
-    let cells = i.cells;
-    if i.set {
-        set_cells(text, first, cells, row);
-    } else {
-        nor_cell(text, first, cells, row);
+    if text.len() <= at {
+        return at;
     }
-    i.next
+    if lines::byte_at(text, at) == frames::KIND_SET {
+        return set_cells(text, at + 2, row);
+    }
+    nor_cells(text, at + 2, row)
 }
 
 // So many cycles from a place on.

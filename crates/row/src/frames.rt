@@ -1,9 +1,10 @@
 // The lines of a sequence: each answers the place of the next line, or its refusal.
 ghost use mathlib.Core.Path.{_≡_};
 ghost use Prim.Native.Nat.{_+_, _*_, _<_, _≤_};
-ghost use lib.ListN.{length};
+ghost use lib.ListN.{length, drop};
 ghost use Rattle.rules.specs.Basics.{within};
 ghost use Rattle.rules.specs.Form.{form01};
+ghost use Rattle.rules.specs.Lines.{digits};
 ghost use Rattle.rules.specs.Sequence.{setOf, norOf, instructionOf, placeOf};
 ghost use Rattle.lines.specs.Line.{bytesFrom};
 ghost use Rattle.row.specs.Answers.{refusalOf, afterRule, lineAnswer, linesAnswer, headAnswer, numbersFit, judgedOf};
@@ -13,6 +14,23 @@ use crate::cells;
 use lines::Line;
 use rules::Answer;
 use rules::Refusal;
+
+// Document 01's kinds and numbers.
+const KIND_HEAD: usize = 0x11;
+
+pub(crate) const KIND_SET: usize = 0x12;
+
+const KIND_NOR: usize = 0x13;
+
+const KIND_PLACE: usize = 0x14;
+
+const ROW_MOST: usize = 256;
+
+const INPUTS_MOST: usize = 64;
+
+const OUTPUTS_MOST: usize = 64;
+
+const INSTRUCTIONS_MOST: usize = 1024;
 
 // The refusal of lines that could not be read.
 pub(crate) fn refusal(a: Answer) -> Refusal
@@ -24,6 +42,7 @@ pub(crate) fn refusal(a: Answer) -> Refusal
     }
 }
 
+// Whether a number is within its least and its most.
 fn is_within(least: usize, most: usize, x: usize) -> bool
     ensures { λ r. ⌜ r ≡ within least most x ⌝ }
 {
@@ -37,16 +56,16 @@ fn is_within(least: usize, most: usize, x: usize) -> bool
 fn numbers_fit(row: usize, inputs: usize, outputs: usize, instructions: usize) -> bool
     ensures { λ r. ⌜ r ≡ numbersFit row inputs outputs instructions ⌝ }
 {
-    if !is_within(2, 256, row) {
+    if !is_within(2, ROW_MOST, row) {
         return false;
     }
-    if !is_within(1, 64, inputs) {
+    if !is_within(1, INPUTS_MOST, inputs) {
         return false;
     }
-    if !is_within(1, 64, outputs) {
+    if !is_within(1, OUTPUTS_MOST, outputs) {
         return false;
     }
-    if !is_within(1, 1024, instructions) {
+    if !is_within(1, INSTRUCTIONS_MOST, instructions) {
         return false;
     }
     inputs < row
@@ -60,7 +79,7 @@ pub(crate) fn head_line(text: &[u8]) -> Reading
     let Line::Frame(n) = l else {
         return Reading::Refused(lines::refusal(l));
     };
-    if lines::byte_at(text, 0) != 17 {
+    if lines::byte_at(text, 0) != KIND_HEAD {
         return Reading::Refused(Refusal { number: 2 });
     }
     if n != 12 {
@@ -111,7 +130,7 @@ fn set_line(text: &[u8], first: usize, k: usize, row: usize) -> Answer
 
 // A NOR line with k cells.
 fn nor_line(text: &[u8], first: usize, k: usize, row: usize) -> Answer
-    requires { ⌜ first + 2 * k < length (now text) ⌝ }
+    requires { ⌜ (first + 2 * k < length (now text)) × (2 * k ≤ digits (drop first (now text))) ⌝ }
     ensures { λ r. ⌜ r ≡ afterRule (norOf form01 row (bytesFrom (now (text .entry)) first k)) (first + 2 * k + 1) ⌝ }
 {
     if k < 2 {
@@ -134,10 +153,10 @@ fn instruction_line(text: &[u8], at: usize, row: usize) -> Answer
         return Answer::Refused(lines::refusal(l));
     };
     let kind = lines::byte_at(text, at);
-    if kind == 18 {
+    if kind == KIND_SET {
         return set_line(text, at + 2, n / 2 - 1, row);
     }
-    if kind == 19 {
+    if kind == KIND_NOR {
         return nor_line(text, at + 2, n / 2 - 1, row);
     }
     Answer::Refused(Refusal { number: 2 })
@@ -151,16 +170,14 @@ fn place_line(text: &[u8], at: usize, row: usize) -> Answer
     let Line::Frame(n) = l else {
         return Answer::Refused(lines::refusal(l));
     };
-    if lines::byte_at(text, at) != 20 {
+    if lines::byte_at(text, at) != KIND_PLACE {
         return Answer::Refused(Refusal { number: 2 });
     }
     if n != 4 {
         return Answer::Refused(Refusal { number: 2 });
     }
-    if row <= lines::byte_at(text, at + 2) {
-        return Answer::Refused(Refusal { number: 12 });
-    }
-    Answer::Given(at + n + 1)
+    let below = lines::byte_at(text, at + 2) < row;
+    judged(true, below, at + n + 1)
 }
 
 // So many instruction lines from a place on.

@@ -3,9 +3,8 @@ ghost use mathlib.Core.Path.{_≡_};
 ghost use Rattle.rules.specs.Form.{form01};
 ghost use Rattle.rules.specs.Sequence.{sequenceOf};
 ghost use Rattle.rules.specs.Calls.{simulateOutcome};
-ghost use Rattle.row.specs.Decoded.{instructionAt, sequenceIn, refusalIn};
+ghost use Rattle.row.specs.Decoded.{cellAt, sequenceIn, refusalIn};
 ghost use Rattle.row.specs.Runs.{outcomeOf};
-use lines::Line;
 use rules::Answer;
 use rules::Refusal;
 
@@ -29,12 +28,10 @@ pub enum Reading {
     Refused(Refusal),
 }
 
-// An instruction where it stands: a set line or else a NOR line, where its first cell's digits stand, how many cells it names, and where the next line begins.
-pub struct Instruction {
-    pub set: bool,
-    pub first: usize,
-    pub cells: usize,
-    pub next: usize,
+// What stands at a place of an instruction's line: the cell whose digits stand there, or the line's end.
+pub enum Entry {
+    Cell(usize),
+    End,
 }
 
 // The refusal of a text that is no sequence.
@@ -47,26 +44,20 @@ pub fn refusal(r: Reading) -> Refusal
     }
 }
 
-// The instruction whose line begins at a place. Cell k of it stands at first + 2 k.
-pub fn instruction_at(text: &[u8], at: usize) -> Instruction
-    ensures { λ r. ⌜ r ≡ instructionAt (now (text .entry)) at ⌝ }
+// A line's cells stand two digits each from the place after its kind on, up to the line's end; the next line begins one place further.
+pub fn cell_at(text: &[u8], at: usize) -> Entry
+    ensures { λ r. ⌜ r ≡ cellAt (now (text .entry)) at ⌝ }
 {
-    let l = lines::read_line(text, at);
-    let Line::Frame(n) = l else {
-        return Instruction {
-            set: true,
-            first: 0,
-            cells: 0,
-            next: at,
-        };
-    };
-    let kind = lines::byte_at(text, at);
-    Instruction {
-        set: kind == 18,
-        first: at + 2,
-        cells: n / 2 - 1,
-        next: at + n + 1,
+    if text.len() <= at {
+        return Entry::End;
     }
+    if text.len() - at < 2 {
+        return Entry::End;
+    }
+    if text[at] == b'\n' {
+        return Entry::End;
+    }
+    Entry::Cell(lines::byte_at(text, at))
 }
 
 // The sequence reader.

@@ -13,35 +13,27 @@ Inv-loop row n i₀ i = Bits n row i
 abbrev μ-loop : tie.MeasureT-loop
 μ-loop row n i₀ i = length row - i
 
--- src/device.rt:27:9
 returns : tie.Need-returns Inv-loop μ-loop
 returns c = bits-long _ _ (c .if1 .taken)
 
--- src/device.rt:30:5
 loop-holds : tie.Need-loop-holds Inv-loop μ-loop
 loop-holds c = bits-start _ _ (c .if1 .left)
 
--- src/device.rt:31:16
 shared-slice-read-if2 : tie.Need-shared-slice-read-if2 Inv-loop μ-loop
 shared-slice-read-if2 c = search needs
 
--- src/device.rt:32:13
 returns-2 : tie.Need-returns-2 Inv-loop μ-loop
 returns-2 c = bits-stop (c .before .before .before .loop .inv) (c .before .before .loop-test .taken) (c .if2 .taken)
 
--- src/device.rt:34:9
 add-i : tie.Need-add-i Inv-loop μ-loop
 add-i c = search needs
 
--- src/device.rt:30:5
 loop-less : tie.Need-loop-less Inv-loop μ-loop
 loop-less c = search needs
 
--- src/device.rt:30:5
 loop-again : tie.Need-loop-again Inv-loop μ-loop
 loop-again c = bits-turn (c .before .before .before .loop .inv) (c .before .before .loop-test .taken) (c .if2 .left)
 
--- src/device.rt:23:1
 returns-3 : tie.Need-returns-3 Inv-loop μ-loop
 returns-3 c = bits-end (c .before .loop .inv) (c .loop-test .left)
 

@@ -13,31 +13,24 @@ Inv-loop text code row₀ cycles at₀ done₀ row at done = Ran text code cycle
 abbrev μ-loop : tie.MeasureT-loop
 μ-loop text code row₀ cycles at₀ done₀ row at done = cycles - done
 
--- src/device.rt:114:5
 loop-holds : tie.Need-loop-holds Inv-loop μ-loop
 loop-holds c = ran-start _ _ _ _
 
--- src/device.rt:115:9
 step-requires : tie.Need-step-requires Inv-loop μ-loop
 step-requires c κs = search needs
 
--- src/device.rt:116:9
 add-done : tie.Need-add-done Inv-loop μ-loop
 add-done c = search needs
 
--- src/device.rt:114:5
 loop-less : tie.Need-loop-less Inv-loop μ-loop
 loop-less c = search needs
 
--- src/device.rt:114:5
 loop-again : tie.Need-loop-again Inv-loop μ-loop
 loop-again c = ran-turn (c .before .before .before .before .before .loop .inv) _ _ (c .before .before .before .before .loop-test .taken) (search needs) (c .before .before .step .ensures)
 
--- src/device.rt:109:1
 same-length : tie.Need-same-length Inv-loop μ-loop
 same-length c = search needs
 
--- src/device.rt:109:1
 returns : tie.Need-returns Inv-loop μ-loop
 returns c = ran-end (c .before .loop .inv) (c .loop-test .left)
 

@@ -4,11 +4,9 @@ use Rattle.row.proofs.frames.is_within.Tie as tie
 use Rattle.row.proofs.frames.is_within.Reads as reads
 use Rattle.row.proofs.frames.is_within.Lts as lts
 
--- src/frames.rt:31:9
 returns : tie.Need-returns
 returns c = simp (lt-leb _ _ (c .if1 .taken))
 
--- src/frames.rt:27:1
 returns-2 : tie.Need-returns-2
 returns-2 c = simp (le-leb _ _ (c .if1 .left))
 

@@ -9,35 +9,27 @@ use Rattle.row.proofs.cells.all_below.Reads as all-below-reads
 use Rattle.row.proofs.cells.ascends.Reads as ascends-reads
 use Rattle.row.proofs.frames.judged.Reads as judged-reads
 
--- src/frames.rt:105:9
 returns : tie.Need-returns
 returns c = set-none _ _ _ _ _ (c .if1 .taken)
 
--- src/frames.rt:107:9
 ascends-requires : tie.Need-ascends-requires
 ascends-requires c κs = search needs
 
--- src/frames.rt:108:9
 all-below-requires : tie.Need-all-below-requires
 all-below-requires c κs = search needs
 
--- src/frames.rt:109:36
 mul-judged : tie.Need-mul-judged
 mul-judged c = search needs
 
--- src/frames.rt:109:28
 add-judged : tie.Need-add-judged
 add-judged c = search needs
 
--- src/frames.rt:109:28
 add-judged-2 : tie.Need-add-judged-2
 add-judged-2 c = search needs
 
--- src/frames.rt:109:5
 judged-requires : tie.Need-judged-requires
 judged-requires c κs = search needs
 
--- src/frames.rt:100:1
 returns-2 : tie.Need-returns-2
 returns-2 c = judged-as _ _ _ _ _ _ (c .judged .ensures) (c .before .before .ascends .ensures) (c .before .all-below .ensures) ∙ set-some _ _ _ _ _ (c .before .before .before .if1 .left) (c .before .before .before .before .before .pre .0)
 
