@@ -72,17 +72,20 @@ module _ (text : List ℕ) (at : ℕ) where
       go (no h) f = absurd (no-way (let z = cells-short (omega arith) in cc))
 
   -- it is the byte whose digits stand there
-  pub cell-small : (c : ℕ) → cellAt text at ≡ Entry.Cell c → c ≤ 255
+  pub cell-is : (c : ℕ) → cellAt text at ≡ Entry.Cell c → byteAt text at ≡ c
   unfolding cellAt firstOf pick
-  cell-small c e = go (decLt (at + 1) (length text)) e
+  cell-is c e = go (decLt (at + 1) (length text)) e
     where
       fed : (t : Bool) → firstOf (pick t [] (byteAt text at ∷ cellsFrom text (at + 2))) ≡ Entry.Cell c → byteAt text at ≡ c
       fed true f = absurd (no-way (cc))
       fed false f = cc
 
-      go : Dec (at + 1 < length text) → firstOf (cellsFrom text at) ≡ Entry.Cell c → c ≤ 255
-      go (yes h) f = rw (← fed (eqb (getD text at 0) 10) (rw (cells-open h) at f)) (byte-small text at)
+      go : Dec (at + 1 < length text) → firstOf (cellsFrom text at) ≡ Entry.Cell c → byteAt text at ≡ c
+      go (yes h) f = fed (eqb (getD text at 0) 10) (rw (cells-open h) at f)
       go (no h) f = absurd (no-way (let z = cells-short (omega arith) in cc))
+
+  pub cell-small : (c : ℕ) → cellAt text at ≡ Entry.Cell c → c ≤ 255
+  cell-small c e = rw (← cell-is c e) (byte-small text at)
 
   pub ended : cellAt text at ≡ Entry.End → cellsFrom text at ≡ []
   unfolding cellAt firstOf
