@@ -1,5 +1,7 @@
 // The netlist reader: a netlist's text into flat arrays.
 
+mod line;
+
 use rules::Refusal;
 
 // A netlist. Operand k of gate g, counted from 0, is ops[4 g + k], of counts[g]; gate g is the signal inputs + g.

@@ -1,0 +1,50 @@
+-- Laws of the flat arrays: how long the lists are that they stand for, and what stands in them.
+use Prim.Native.Nat.{ℕ, zero, suc, _+_, _-_, _*_, _<_, _≤_}
+use native.Mathlib.Omega.{arith}
+use native.Mathlib.Numerals.{add-one}
+use mathlib.Core.Path.{_≡_, refl, sym, ap, _∙_, subst}
+use mathlib.Core.Bool.{Bool, true, false}
+use mathlib.Core.List.{List, [], _∷_, _++_}
+use lib.ListN.{getD, length, set, length-set, length-append, List·getD-append}
+use lib.Seq.{sets, getD-append-seam, getD-set-same, getD-set-other}
+use Rattle.rules.specs.Basics.{mem}
+use Rattle.netlist.specs.Flat.{from, gateIn, gatesIn}
+
+-- ---- n numbers from a place on
+
+pub length-from : (l : List ℕ) (at n : ℕ) → length (from l at n) ≡ n
+unfolding from
+length-from l at zero = refl
+length-from l at (suc n) = ap suc (length-from l (at + 1) n)
+
+pub getD-from : (l : List ℕ) (at n k d : ℕ) → k < n → getD (from l at n) k d ≡ getD l (at + k) 0
+unfolding from
+getD-from l at zero k d h = absurd (omega arith)
+getD-from l at (suc n) zero d h = let e : at + 0 ≡ at = omega arith in rw e
+getD-from l at (suc n) (suc k) d h = let e : at + 1 + k ≡ at + suc k = omega arith in getD-from l (at + 1) n k d (omega arith) ∙ rw e
+
+-- what is left of a walk over n numbers, at turn j
+module _ (l : List ℕ) (at n : ℕ) where
+  pub from-start : from l (at + 0) (n - 0) ≡ from l at n
+  from-start = let e : n - 0 ≡ n = omega arith in let f : at + 0 ≡ at = omega arith in rw (e, f)
+
+  pub from-turn : (j : ℕ) → j < n → from l (at + j) (n - j) ≡ getD l (at + j) 0 ∷ from l (at + (j + 1)) (n - (j + 1))
+  unfolding from
+  from-turn j h =
+      let e : n - j ≡ suc (n - (j + 1)) = omega arith in
+      let f : at + (j + 1) ≡ at + j + 1 = omega arith in
+      rw (e, f)
+
+  pub from-end : (j : ℕ) → n ≤ j → from l (at + j) (n - j) ≡ []
+  unfolding from
+  from-end j h = let e : n - j ≡ 0 = omega arith in rw e
+
+-- numbers written in a row stand there, and those before them stay
+pub sets-below : (ws l : List ℕ) (i k : ℕ) → k < i → getD (sets l i ws) k 0 ≡ getD l k 0
+sets-below [] l i k h = refl
+sets-below (w ∷ ws) l i k h = sets-below ws (set l i w) (suc i) k (omega arith) ∙ getD-set-other l i k w 0 (λ e. omega arith)
+
+pub from-sets : (ws l : List ℕ) (i n : ℕ) → length ws ≡ n → i + n ≤ length l → from (sets l i ws) i n ≡ ws
+unfolding from
+from-sets [] l i n e h = rw (← e)
+from-sets (w ∷ ws) l i n e h = rw (← e, sets-below ws (set l i w) (suc i) i (omega arith), getD-set-same l i w 0 (omega arith), add-one) (ap (λ t. w ∷ t) (from-sets ws (set l i w) (suc i) (length ws) refl (omega (arith, length-set l i w))))

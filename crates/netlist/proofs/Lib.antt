@@ -1,0 +1,4 @@
+pub mod Arrays
+pub mod OneLine
+pub mod Operands
+pub mod OneGate
