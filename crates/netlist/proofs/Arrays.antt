@@ -48,3 +48,25 @@ pub from-sets : (ws l : List ℕ) (i n : ℕ) → length ws ≡ n → i + n ≤ 
 unfolding from
 from-sets [] l i n e h = rw (← e)
 from-sets (w ∷ ws) l i n e h = rw (← e, sets-below ws (set l i w) (suc i) i (omega arith), getD-set-same l i w 0 (omega arith), add-one) (ap (λ t. w ∷ t) (from-sets ws (set l i w) (suc i) (length ws) refl (omega (arith, length-set l i w))))
+
+pub from-snoc : (l : List ℕ) (at n : ℕ) → from l at (suc n) ≡ from l at n ++ (getD l (at + n) 0 ∷ [])
+unfolding from
+from-snoc l at zero = let e : at + 0 ≡ at = omega arith in rw e
+from-snoc l at (suc n) = let e : at + 1 + n ≡ at + suc n = omega arith in ap (λ t. getD l at 0 ∷ t) (from-snoc l (at + 1) n ∙ rw e)
+
+-- two arrays that agree where the numbers stand
+pub from-agree : (a b : List ℕ) (at n : ℕ) → ((i : ℕ) → at ≤ i → i < at + n → getD a i 0 ≡ getD b i 0) → from a at n ≡ from b at n
+unfolding from
+from-agree a b at zero h = refl
+from-agree a b at (suc n) h =
+    ap (λ x. x ∷ from a (at + 1) n) (h at (omega arith) (omega arith))
+    ∙ ap (λ l. getD b at 0 ∷ l) (from-agree a b (at + 1) n (λ i u v. h i (omega arith) (omega arith)))
+
+-- ---- gates
+
+pub gates-agree : (a b c d : List ℕ) (n : ℕ) → ((g : ℕ) → g < n → gateIn a c g ≡ gateIn b d g) → gatesIn a c n ≡ gatesIn b d n
+unfolding gatesIn
+gates-agree a b c d zero h = refl
+gates-agree a b c d (suc n) h =
+    ap (λ l. l ++ (gateIn a c n ∷ [])) (gates-agree a b c d n (λ g u. h g (omega arith)))
+    ∙ ap (λ x. gatesIn b d n ++ (x ∷ [])) (h n (omega arith))

@@ -2,3 +2,4 @@ pub mod Arrays
 pub mod OneLine
 pub mod Operands
 pub mod OneGate
+pub mod Following

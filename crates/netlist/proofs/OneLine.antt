@@ -24,7 +24,7 @@ use Rattle.lines.proofs.Laws.{word-small}
 use Rattle.lines.proofs.Meaning.{Fits, frame-fits, line-is, line-not, words-are, words-odd}
 use Rattle.netlist.specs.declared.line.Head.{Head}
 use Rattle.netlist.specs.declared.line.Head.the-variants as head
-use Rattle.netlist.specs.Steps.{lineBy, headMeant, headNumbers, HeadRead, operandsIn, operandsMeant, OperandsFit, OperandsRead, outputMeant, OutputRead}
+use Rattle.netlist.specs.Steps.{lineBy, headMeant, headNumbers, HeadRead, operandsIn, operandsMeant, OperandsFit, OperandsRead, outputMeant, OutputFits, OutputRead}
 
 -- ---- a line by a rule
 
@@ -173,7 +173,7 @@ module _ (text : List ℕ) (at inputs gates : ℕ) where
   unfolding outputMeant
   output-none r e = record {
     means = λ o. sym (by-none (outputOf form01 (record { inputs = inputs; gates = gates; outputs = o })) text at r e);
-    inside = λ s f. absurd (none-given f);
+    fits = λ s f. absurd (none-given f);
   }
 
   module _ (n : ℕ) (e : lineAt text at ≡ lines.Frame n) where
@@ -182,7 +182,7 @@ module _ (text : List ℕ) (at inputs gates : ℕ) where
     unfolding outputMeant _>>=_
     output-refused k f = record {
       means = λ o. sym (by-line (outputOf form01 (record { inputs = inputs; gates = gates; outputs = o })) text at n e ∙ rw (f o));
-      inside = λ s z. absurd (none-given z);
+      fits = λ s z. absurd (none-given z);
     }
 
     pub output-kind : (byteAt text at ≡ 3 → ⊥) → OutputRead text at inputs gates (Refused (record { number = 2 }))
@@ -229,5 +229,5 @@ module _ (text : List ℕ) (at inputs gates : ℕ) where
               means = λ o.
                   let g = named-output o in
                   sym (by-line (outputOf form01 (record { inputs = inputs; gates = gates; outputs = o })) text at n e ∙ rw (c, g, le-leb inputs s l, lt-ltb s (inputs + gates) h));
-              inside = λ _ _. omega (arith, f .inside, six);
+              fits = λ k z. let q : s ≡ k = cc in subst (OutputFits text at (inputs + gates)) q (record { inside = omega (arith, f .inside, six); low = h });
             }

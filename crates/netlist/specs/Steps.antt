@@ -13,7 +13,7 @@ use Rattle.rules.specs.Form.{form01, two}
 use Rattle.rules.specs.Refusals.{Res, good, refused, refuse, _>>=_, _>>_, require, orRefuse}
 use Rattle.rules.specs.Lines.{line, numbers}
 use Rattle.rules.specs.Netlist as rules
-use Rattle.rules.specs.Netlist.{Part, due, headOf, gateOf, outputOf}
+use Rattle.rules.specs.Netlist.{Part, due, headOf, gateOf, outputOf, lines}
 use Rattle.lines.specs.Line.{wordsFrom}
 use Rattle.netlist.specs.declared.line.Head.{Head}
 use Rattle.netlist.specs.declared.line.Head.the-variants as head
@@ -90,7 +90,30 @@ unfoldable pub outputMeant : List ℕ → ℕ → Answer → Res (Part ℕ)
 outputMeant text at (Given s) = good (record { got = s; tail = drop (at + 7) text })
 outputMeant text at (Refused r) = refused r
 
+-- an output stands inside the text, with the line feed behind it, and is a gate
+pub record OutputFits (text : List ℕ) (at most s : ℕ) : Type 0 where
+  pub inside : at + 7 ≤ length text
+  pub low : s < most
+
 -- by the head's inputs and gates, whatever its outputs
 pub record OutputRead (text : List ℕ) (at inputs gates : ℕ) (r : Answer) : Type 0 where
   pub means : (outputs : ℕ) → outputMeant text at r ≡ lineBy (outputOf form01 (record { inputs = inputs; gates = gates; outputs = outputs })) (drop at text)
-  pub inside : (s : ℕ) → r ≡ Given s → at + 7 ≤ length text
+  pub fits : (s : ℕ) → r ≡ Given s → OutputFits text at (inputs + gates) s
+
+-- ---- line after line
+
+unfoldable pub gatesMeant : List ℕ → List ℕ → List ℕ → ℕ → Answer → Res (Part (List (List ℕ)))
+gatesMeant text ops counts n (Given at) = good (record { got = gatesIn ops counts n; tail = drop at text })
+gatesMeant text ops counts n (Refused r) = refused r
+
+pub record GatesRead (text : List ℕ) (start inputs n : ℕ) (ops counts : List ℕ) (r : Answer) : Type 0 where
+  pub means : gatesMeant text ops counts n r ≡ lines form01 (gateOf form01) n inputs [] (drop start text)
+  pub inside : (at : ℕ) → r ≡ Given at → at ≤ length text
+
+unfoldable pub outputsMeant : List ℕ → List ℕ → ℕ → Answer → Res (Part (List ℕ))
+outputsMeant text outs n (Given at) = good (record { got = from outs 0 n; tail = drop at text })
+outputsMeant text outs n (Refused r) = refused r
+
+pub record OutputsRead (text : List ℕ) (start inputs gates n : ℕ) (outs : List ℕ) (r : Answer) : Type 0 where
+  pub means : outputsMeant text outs n r ≡ lines form01 (λ _. outputOf form01 (record { inputs = inputs; gates = gates; outputs = n })) n 0 [] (drop start text)
+  pub inside : (at : ℕ) → r ≡ Given at → at ≤ length text

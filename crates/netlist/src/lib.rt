@@ -1,5 +1,6 @@
 // The netlist reader: a netlist's text into flat arrays.
 
+mod body;
 mod line;
 
 use rules::Refusal;
