@@ -3,3 +3,5 @@ pub mod OneLine
 pub mod Operands
 pub mod OneGate
 pub mod Following
+pub mod Numbered
+pub mod Whole

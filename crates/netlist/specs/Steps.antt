@@ -27,6 +27,10 @@ lineBy rule text = do
   a ← rule (l .bytes)
   good (record { got = a; tail = l .rest })
 
+abbrev pub refusalIn : Answer → Refusal
+refusalIn (Given n) = record { number = 0 }
+refusalIn (Refused r) = r
+
 -- ---- the head
 
 unfoldable pub headMeant : List ℕ → Head → Res (Part rules.Head)
@@ -37,8 +41,16 @@ abbrev pub headRefusal : Head → Refusal
 headRefusal (head.Of i g o) = record { number = 0 }
 headRefusal (head.Refused r) = r
 
+-- a head's numbers are within the limits, and its line stands inside the text
+pub record HeadFits (text : List ℕ) (inputs gates outputs : ℕ) : Type 0 where
+  pub inputsMost : inputs ≤ 64
+  pub gatesMost : gates ≤ 512
+  pub outputsMost : outputs ≤ 64
+  pub inside : 11 ≤ length text
+
 pub record HeadRead (text : List ℕ) (r : Head) : Type 0 where
   pub means : headMeant text r ≡ lineBy (headOf form01) text
+  pub fits : (i g o : ℕ) → r ≡ head.Of i g o → HeadFits text i g o
 
 unfoldable pub headNumbers : ℕ → ℕ → ℕ → Head
 unfolding pick
