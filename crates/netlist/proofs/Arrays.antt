@@ -2,12 +2,14 @@
 use Prim.Native.Nat.{ℕ, zero, suc, _+_, _-_, _*_, _<_, _≤_}
 use native.Mathlib.Omega.{arith}
 use native.Mathlib.Numerals.{add-one}
+use native.Mathlib.Decide.{decLt}
 use mathlib.Core.Path.{_≡_, refl, sym, ap, _∙_, subst}
 use mathlib.Core.Bool.{Bool, true, false}
 use mathlib.Core.List.{List, [], _∷_, _++_}
 use lib.ListN.{getD, length, set, length-set, length-append, List·getD-append}
 use lib.Seq.{sets, getD-append-seam, getD-set-same, getD-set-other}
 use Rattle.rules.specs.Basics.{mem}
+use Rattle.rules.proofs.Laws.{mem-nil, cons-cases, cons-more, cons-self}
 use Rattle.netlist.specs.Flat.{from, gateIn, gatesIn}
 
 -- ---- n numbers from a place on
@@ -70,3 +72,47 @@ gates-agree a b c d zero h = refl
 gates-agree a b c d (suc n) h =
     ap (λ l. l ++ (gateIn a c n ∷ [])) (gates-agree a b c d n (λ g u. h g (omega arith)))
     ∙ ap (λ x. gatesIn b d n ++ (x ∷ [])) (h n (omega arith))
+
+pub length-gates : (ops counts : List ℕ) (n : ℕ) → length (gatesIn ops counts n) ≡ n
+unfolding gatesIn
+length-gates ops counts zero = refl
+length-gates ops counts (suc n) = length-append (gatesIn ops counts n) (gateIn ops counts n ∷ []) ∙ rw (length-gates ops counts n) (add-one n)
+
+pub getD-gates : (ops counts : List ℕ) (n g : ℕ) (d : List ℕ) → g < n → getD (gatesIn ops counts n) g d ≡ gateIn ops counts g
+unfolding gatesIn
+getD-gates ops counts zero g d h = absurd (omega arith)
+getD-gates ops counts (suc n) g d h = go (λ y. getD-gates ops counts n g d y) (decLt g n)
+  where
+    go : (g < n → getD (gatesIn ops counts n) g d ≡ gateIn ops counts g) → Dec (g < n)
+        → getD (gatesIn ops counts n ++ (gateIn ops counts n ∷ [])) g d ≡ gateIn ops counts g
+    go rec (yes y) = List·getD-append (gatesIn ops counts n) (gateIn ops counts n ∷ []) d g (omega (arith, length-gates ops counts n)) ∙ rec y
+    go rec (no y) =
+        let e : g ≡ length (gatesIn ops counts n) = omega (arith, length-gates ops counts n) in
+        let f : n ≡ g = omega arith in
+        ap (λ i. getD (gatesIn ops counts n ++ (gateIn ops counts n ∷ [])) i d) e ∙ getD-append-seam (gatesIn ops counts n) (gateIn ops counts n) [] d
+        ∙ ap (gateIn ops counts) f
+
+pub length-gate : (ops counts : List ℕ) (g : ℕ) → length (gateIn ops counts g) ≡ getD counts g 0
+unfolding gateIn
+length-gate ops counts g = length-from ops (4 * g) (getD counts g 0)
+
+-- ---- members
+
+-- a number of a list stands somewhere in it
+pub mem-getD : (x : ℕ) (l : List ℕ) → mem x l ≡ true → (j : ℕ) × (j < length l) × (getD l j 0 ≡ x)
+mem-getD x [] e = absurd (mem-nil x e)
+mem-getD x (y ∷ l) e = cons-cases _ x y l e (λ f. (0, omega arith, sym f)) (λ f. let r = mem-getD x l f in (suc (r .0), omega arith, r .2))
+
+pub getD-mem : (l : List ℕ) (j : ℕ) → j < length l → mem (getD l j 0) l ≡ true
+getD-mem [] j h = absurd (omega arith)
+getD-mem (y ∷ l) zero h = cons-self y l
+getD-mem (y ∷ l) (suc j) h = cons-more (getD l j 0) y l (getD-mem l j (omega arith))
+
+pub mem-from : (l : List ℕ) (at n k : ℕ) → k < n → mem (getD l (at + k) 0) (from l at n) ≡ true
+mem-from l at n k h = rw (getD-from l at n k 0 h) at (getD-mem (from l at n) k (omega (arith, length-from l at n)))
+
+pub from-mem : (l : List ℕ) (at n x : ℕ) → mem x (from l at n) ≡ true → (k : ℕ) × (k < n) × (getD l (at + k) 0 ≡ x)
+from-mem l at n x e =
+    let r = mem-getD x (from l at n) e in
+    let h : r .0 < n = omega (arith, length-from l at n, r .1) in
+    (r .0, h, sym (getD-from l at n (r .0) 0 h) ∙ r .2)

@@ -5,3 +5,5 @@ pub mod OneGate
 pub mod Following
 pub mod Numbered
 pub mod Whole
+pub mod Well
+pub mod FlatWell
