@@ -7,3 +7,4 @@ pub mod Numbered
 pub mod Whole
 pub mod Well
 pub mod FlatWell
+pub mod Marking

@@ -1,3 +1,4 @@
 pub mod Flat
+pub mod Marks
 pub mod Steps
 pub mod Well
