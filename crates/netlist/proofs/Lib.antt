@@ -8,3 +8,5 @@ pub mod Whole
 pub mod Well
 pub mod FlatWell
 pub mod Marking
+pub mod Keyed
+pub mod Alike

@@ -119,7 +119,7 @@ module _ {marks : List ℕ} {first n k : ℕ} (w : Checking marks first n k) whe
 
 -- ---- what the marks say
 
-marked-set : (marks : List ℕ) (c s : ℕ) → s < length marks → marked (set marks c 1) s ≡ (eqb s c || marked marks s)
+pub marked-set : (marks : List ℕ) (c s : ℕ) → s < length marks → marked (set marks c 1) s ≡ (eqb s c || marked marks s)
 unfolding marked
 marked-set marks c s h = go (eqb s c) refl
   where
@@ -145,11 +145,11 @@ marked-gates [] marks s h = refl
 marked-gates (g ∷ gs) marks s h =
     marked-gates gs (setAll 1 g marks) s (omega (arith, setAll-long g marks)) ∙ rw (marked-list g marks s h) (or-moves (mem s g) (any (mem s) gs) (marked marks s))
 
-marks-long : length noMarks ≡ 576
+pub marks-long : length noMarks ≡ 576
 unfolding noMarks
 marks-long = let z : ℕ = 0 in length-replicate 576 z
 
-none-marked : (s : ℕ) → marked noMarks s ≡ false
+pub none-marked : (s : ℕ) → marked noMarks s ≡ false
 unfolding marked noMarks
 none-marked s = rw (zero-at 576 s)
   where
