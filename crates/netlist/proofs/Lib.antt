@@ -10,3 +10,4 @@ pub mod FlatWell
 pub mod Marking
 pub mod Keyed
 pub mod Alike
+pub mod Entry

@@ -10,8 +10,8 @@ ghost use Rattle.netlist.specs.Keys.{keyAt, keysIn};
 ghost use Rattle.netlist.specs.Well.{WellFlat};
 use crate::Netlist;
 use crate::used::no_marks;
-use slices::at16;
 use slices::at8;
+use slices::at16;
 use slices::put8;
 
 fn at_most(most: usize, n: usize) -> usize
