@@ -11,3 +11,4 @@ pub mod Marking
 pub mod Keyed
 pub mod Alike
 pub mod Entry
+pub mod Finding

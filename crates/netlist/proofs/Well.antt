@@ -18,6 +18,7 @@ use Rattle.rules.specs.Lines.{line, nothing, numbers, fields}
 use Rattle.rules.specs.Netlist as rules
 use Rattle.rules.specs.Netlist.{Part, due, Head, headOf, gateOf, outputOf, lines, netlistLines, netlistOf, wellFormed, allUsed, twins}
 use Rattle.rules.proofs.Laws.{no-way, and-true, bind-good, then-good, require-good, orRefuse-good, mem-nil, cons-cases}
+use Rattle.netlist.specs.Flat.{frontOf}
 use Rattle.netlist.specs.Well.{Well, WellLines, WellFlat}
 use Rattle.netlist.proofs.Arrays.{mem-getD}
 
@@ -277,3 +278,16 @@ lines-of N w = record {
   outputsHigh = w .outputsHigh;
   outputsLow = w .outputsLow;
 }
+
+-- the netlist that a text begins with is well, and its lines were read from there
+pub well-front : (text : List ℕ) (p : Part rules.Netlist) → frontOf text ≡ good p → Well (p .got)
+unfolding frontOf
+well-front text p e =
+    let a = bind-good (netlistLines form01 text) (λ q. wellFormed (q .got) >>= λ M. good (record { got = M; tail = q .tail })) p e in
+    let q = a .0 in
+    let b = bind-good (wellFormed (q .got)) (λ M. good (record { got = M; tail = q .tail })) p (a .2) in
+    let z : b .0 ≡ p .got = let y = b .2 in ap (λ x. x .got) (part-same (record { got = b .0; tail = q .tail }) p y) in
+    subst Well (formed-same (q .got) (b .0) (b .1) ∙ z) (formed-well (q .got) (b .0) (well-lines text q (a .1)) (b .1))
+  where
+    part-same : (x y : Part rules.Netlist) → good x ≡ good y → x ≡ y
+    part-same x y f = cc

@@ -12,6 +12,7 @@ use rules::Answer;
 use rules::Refusal;
 
 mod body;
+pub mod keys;
 mod line;
 mod twins;
 mod used;
