@@ -1,10 +1,13 @@
 pub mod Arrays
 pub mod OneLine
+pub mod HeadLine
+pub mod OutputLine
 pub mod Operands
 pub mod OneGate
 pub mod Following
 pub mod Numbered
 pub mod Whole
+pub mod LineWell
 pub mod Well
 pub mod FlatWell
 pub mod Marking
