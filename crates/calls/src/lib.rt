@@ -4,8 +4,8 @@ ghost use mathlib.Core.Path.{_≡_};
 ghost use Prim.Native.Nat.{_-_, _%_, _^_};
 ghost use lib.ListN.{length};
 ghost use Rattle.rules.specs.Refusals.{meaning};
-ghost use Rattle.rules.specs.Calls.{simulateOutcome, frameOutcome, placeOutcome};
-ghost use Rattle.calls.specs.Coded.{coded};
+ghost use Rattle.rules.specs.Calls.{simulateOutcome, tailOutcome, frameOutcome, placeOutcome};
+ghost use Rattle.calls.specs.Coded.{coded, readAnswer};
 use rules::Answer;
 
 // An answer as one number.
@@ -26,6 +26,28 @@ fn minus(n: u8) -> u64
         return 0;
     }
     18446744073709551615 - (n as u64 - 1)
+}
+
+// read: 0 where a netlist reads well, or the refusal.
+#[no_mangle]
+pub extern "C" fn bhedhmurali_read(text: &[u8]) -> u64
+    ensures { λ r. ⌜ r ≡ coded (readAnswer (now (text .entry))) ⌝ }
+{
+    let r = netlist::read(text);
+    let n = r.refusal.number;
+    minus(n)
+}
+
+// tail: where the part of the text that follows the netlist's last output line begins.
+#[no_mangle]
+pub extern "C" fn bhedhmurali_tail(text: &[u8]) -> usize
+    ensures { λ r. ⌜ r ≡ length (now (text .entry)) - length (tailOutcome (now (text .entry))) ⌝ }
+{
+    let t = netlist::tail(text);
+    if text.len() <= t.len() {
+        return 0;
+    }
+    text.len() - t.len()
 }
 
 // How many digits the frame at a place of a text has, 0 where none stands.
