@@ -4,7 +4,7 @@ ghost use mathlib.Core.Path.{_≡_};
 ghost use Prim.Native.Nat.{_-_, _%_, _^_};
 ghost use lib.ListN.{length};
 ghost use Rattle.rules.specs.Refusals.{meaning};
-ghost use Rattle.rules.specs.Calls.{simulateOutcome, tailOutcome, frameOutcome, placeOutcome};
+ghost use Rattle.rules.specs.Calls.{evaluateOutcome, simulateOutcome, tailOutcome, frameOutcome, placeOutcome};
 ghost use Rattle.calls.specs.Coded.{coded, readAnswer};
 use rules::Answer;
 
@@ -36,6 +36,15 @@ pub extern "C" fn bhedhmurali_read(text: &[u8]) -> u64
     let r = netlist::read(text);
     let n = r.refusal.number;
     minus(n)
+}
+
+// evaluate: a netlist's outputs for its inputs. The answer is their number.
+#[no_mangle]
+pub extern "C" fn bhedhmurali_evaluate(text: &[u8], inputs: &[u8], out: &mut [u8]) -> u64
+    ensures { λ r. ⌜ (r ≡ coded (evaluateOutcome (now (text .entry)) (now (inputs .entry)) (now (out .entry)) .answer))
+        × (now (out .exit) ≡ evaluateOutcome (now (text .entry)) (now (inputs .entry)) (now (out .entry)) .lent) ⌝ }
+{
+    code(evaluator::evaluate(text, inputs, out))
 }
 
 // tail: where the part of the text that follows the netlist's last output line begins.

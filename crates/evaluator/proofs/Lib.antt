@@ -1,0 +1,4 @@
+pub mod Bits
+pub mod Worked
+pub mod Handed
+pub mod Ends
