@@ -14,7 +14,7 @@ fn main() {
     println!("gates  call      library µs  second µs  ratio");
     for gates in [16, 64, 128, 256, 512] {
         let netlists = netlists(gates);
-        for call in [simulate] {
+        for call in [evaluate, simulate] {
             call(gates, &netlists);
         }
     }
@@ -72,4 +72,16 @@ fn simulate(gates: usize, netlists: &[Netlist]) {
         (ours, second)
     });
     print(gates, "simulate", times.collect());
+}
+
+fn evaluate(gates: usize, netlists: &[Netlist]) {
+    let times = netlists.iter().map(|netlist| {
+        let text = text_of(netlist);
+        let inputs = vec![1; netlist.inputs];
+        let mut out = vec![0; 64];
+        let ours = time(|| _ = black_box(proved::evaluate(&text, &inputs, &mut out)));
+        let second = time(|| _ = black_box(second::evaluate(&text, &inputs, &mut out)));
+        (ours, second)
+    });
+    print(gates, "evaluate", times.collect());
 }

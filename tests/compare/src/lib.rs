@@ -6,6 +6,7 @@ mod given;
 mod rows;
 mod sequences;
 mod tally;
+mod texts;
 
 pub use tally::Tally;
 
@@ -19,11 +20,19 @@ pub struct Kind {
 }
 
 /// Every kind. Once of a kind is one text with all that is tried of it.
-pub const KINDS: [Kind; 2] = [
+pub const KINDS: [Kind; 3] = [
     Kind {
         name: "frames",
         once: frames::once,
         numbers: &[],
+    },
+    Kind {
+        name: "texts",
+        once: texts::once,
+        numbers: &[
+            ("read", &[0, 1, 2, 3, 4, 5, 6, 7]),
+            ("evaluate", &[0, 1, 2, 3, 4, 5, 6, 7, 10, 17]),
+        ],
     },
     Kind {
         name: "rows",
