@@ -1,0 +1,9 @@
+pub mod Turns
+pub mod Judging
+pub mod Framed
+pub mod Heading
+pub mod Decoding
+pub mod Onward
+pub mod Running
+pub mod Whole
+pub mod Outcomes

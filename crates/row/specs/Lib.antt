@@ -1,0 +1,3 @@
+pub mod Decoded
+pub mod Answers
+pub mod Runs
