@@ -175,3 +175,24 @@ pub fn stepped(book: Book, text: &[u8], i: Instruction, gate: u16) -> Outcome
         book: b,
     }
 }
+
+// One instruction alters the book, and the answer is the refusal, number 0 where there is none: the book is copied out of the borrow, and what `stepped` makes of it goes back in.
+pub fn step(book: &mut Book, text: &[u8], i: Instruction, gate: u16) -> Refusal
+    ensures { λ r. ⌜ (r ≡ steppedOf (now (book .entry)) (now (text .entry)) i gate .refusal) × (now (book .exit) ≡ steppedOf (now (book .entry)) (now (text .entry)) i gate .book) ⌝ }
+{
+    let s = stepped(*book, text, i, gate);
+    *book = s.book;
+    s.refusal
+}
+
+// A book by value, lent to one step, so that whoever runs instruction after instruction lends nothing.
+pub fn stepped_through(book: Book, text: &[u8], i: Instruction, gate: u16) -> Outcome
+    ensures { λ r. ⌜ r ≡ steppedOf book (now (text .entry)) i gate ⌝ }
+{
+    let mut b = book;
+    let refusal = step(&mut b, text, i, gate);
+    Outcome {
+        refusal: refusal,
+        book: b,
+    }
+}
