@@ -12,7 +12,6 @@ use lib.Seq.{sets, set-out, take-set-lt, drop-set-lt, take-at, drop-at, take-all
 use borrow.Author.Tests.{lt-ltb, le-ltb}
 use Rattle.rules.specs.Basics.{pick, any, setAll, upto}
 use Rattle.rules.specs.Book.{Cell, unknown, ready, holds}
-use Rattle.lines.specs.Line.{byteAt, bytesFrom}
 use Rattle.book.specs.Cells.{cellOf, codeOf, said, kept, blankCells}
 
 -- ---- numbers and what they say
@@ -101,75 +100,20 @@ put-past cells row c v h =
 
 -- ---- the cells of a set line, one after the other
 
--- what is left of k cells after j of them
-pub left : List ℕ → ℕ → ℕ → ℕ → List ℕ
-left text first k j = bytesFrom text (first + 2 * j) (k - j)
-
-left-all : (text : List ℕ) (first k : ℕ) → left text first k 0 ≡ bytesFrom text first k
-unfolding left
-left-all text first k = let z : first + 2 * 0 ≡ first = omega arith in let y : k - 0 ≡ k = omega arith in rw (z, y)
-
-left-more : (text : List ℕ) (first k j : ℕ) → j < k → left text first k j ≡ byteAt text (first + 2 * j) ∷ left text first k (j + 1)
-unfolding left bytesFrom
-left-more text first k j h =
-    let z : k - j ≡ suc (k - (j + 1)) = omega arith in
-    let y : first + 2 * j + 2 ≡ first + 2 * (j + 1) = omega arith in
-    rw (z, y)
-
-left-none : (text : List ℕ) (first k j : ℕ) → k ≤ j → left text first k j ≡ []
-unfolding left bytesFrom
-left-none text first k j h = let z : k - j ≡ 0 = omega arith in rw z
-
--- none of the first j is an input cell
-pub record Asked (text : List ℕ) (first k inputs j : ℕ) : Type 0 where
-  pub low : j ≤ k
-  pub same : any (λ c. ltb c inputs) (bytesFrom text first k) ≡ any (λ c. ltb c inputs) (left text first k j)
-
-pub asked-start : (text : List ℕ) (first k inputs : ℕ) → Asked text first k inputs 0
-asked-start text first k inputs = record { low = omega arith; same = rw (left-all text first k) }
-
-module _ {text : List ℕ} {first k inputs j : ℕ} (s : Asked text first k inputs j) (c : ℕ) (is : c ≡ byteAt text (first + 2 * j)) where
-  pub asked-turn : j < k → inputs ≤ c → Asked text first k inputs (j + 1)
-  unfolding any
-  asked-turn h n = record {
-    low = omega arith;
-    same = s .same ∙ rw (left-more text first k j h, ← is, le-ltb c inputs n);
-  }
-
-  pub asked-stop : j < k → c < inputs → true ≡ any (λ c. ltb c inputs) (bytesFrom text first k)
-  unfolding any
-  asked-stop h n = sym (s .same ∙ rw (left-more text first k j h, ← is, lt-ltb c inputs n))
-
-pub asked-end : {text : List ℕ} {first k inputs j : ℕ} → Asked text first k inputs j → k ≤ j → false ≡ any (λ c. ltb c inputs) (bytesFrom text first k)
+pub input-stop : (inputs c : ℕ) (l : List ℕ) → c < inputs → any (λ x. ltb x inputs) (c ∷ l) ≡ true
 unfolding any
-asked-end {text} {first} {k} {inputs} {j} s h = sym (s .same ∙ rw (left-none text first k j h))
+input-stop inputs c l h = rw (lt-ltb c inputs h)
 
--- the first j are ready, and the book says nothing else new
-pub record Readied (row : ℕ) (text : List ℕ) (first k : ℕ) (before : List ℕ) (j : ℕ) (cells : List ℕ) : Type 0 where
-  pub low : j ≤ k
-  pub same : kept row (setAll ready (left text first k j) (said row cells)) cells ≡ kept row (setAll ready (bytesFrom text first k) (said row before)) before
+pub input-turn : (inputs c : ℕ) (l : List ℕ) → inputs ≤ c → any (λ x. ltb x inputs) (c ∷ l) ≡ any (λ x. ltb x inputs) l
+unfolding any
+input-turn inputs c l h = rw (le-ltb c inputs h)
 
-pub readied-start : (row : ℕ) (text : List ℕ) (first k : ℕ) (cells : List ℕ) → Readied row text first k cells 0 cells
-readied-start row text first k cells = record { low = omega arith; same = rw (left-all text first k) }
-
-pub readied-turn : {row : ℕ} {text : List ℕ} {first k : ℕ} {before : List ℕ} {j : ℕ} {cells : List ℕ} (s : Readied row text first k before j cells)
-    (after : List ℕ) (c : ℕ) → j < k → c ≡ byteAt text (first + 2 * j) → after ≡ kept row (set (said row cells) c (cellOf 1)) cells
-    → Readied row text first k before (j + 1) after
+pub ready-turn : (row : ℕ) (cells after : List ℕ) (c : ℕ) (l : List ℕ) → after ≡ kept row (set (said row cells) c (cellOf 1)) cells
+    → kept row (setAll ready (c ∷ l) (said row cells)) cells ≡ kept row (setAll ready l (said row after)) after
 unfolding setAll kept cellOf
-readied-turn {row} {text} {first} {k} {before} {j} {cells} s after c h is e =
-    let l : length (set (said row cells) c ready) ≡ min row (length cells) = length-set (said row cells) c ready ∙ said-length row cells in
-    record {
-      low = omega arith;
-      same =
-          rw (e, said-kept row (set (said row cells) c ready) cells l, drop-kept row (set (said row cells) c ready) cells l, is)
-          (rw (left-more text first k j h) at (s .same));
-    }
-
-pub readied-end : {row : ℕ} {text : List ℕ} {first k : ℕ} {before : List ℕ} {j : ℕ} {cells : List ℕ} → Readied row text first k before j cells → k ≤ j
-    → cells ≡ kept row (setAll ready (bytesFrom text first k) (said row before)) before
-unfolding setAll
-readied-end {row} {text} {first} {k} {before} {j} {cells} s h =
-    sym (kept-said row cells) ∙ rw (left-none text first k j h) at (s .same)
+ready-turn row cells after c l e =
+    let n : length (set (said row cells) c ready) ≡ min row (length cells) = length-set (said row cells) c ready ∙ said-length row cells in
+    rw (e, said-kept row (set (said row cells) c ready) cells n, drop-kept row (set (said row cells) c ready) cells n)
 
 -- ---- the first book
 

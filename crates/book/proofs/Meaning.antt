@@ -17,12 +17,9 @@ use Rattle.rules.specs.Sequence as rules
 use Rattle.rules.specs.Sequence.{Set, Nor}
 use Rattle.rules.specs.Book.{Cell, unknown, ready, holds, firstBook, signals, made, step}
 use Rattle.rules.proofs.Laws.{no-way, by-pick}
-use Rattle.lines.specs.declared.Line.{Line}
-use Rattle.lines.specs.declared.Line.the-variants.{Frame, Refused}
-use Rattle.lines.specs.Line.{lineAt}
-use Rattle.lines.proofs.Meaning.{frame-fits}
 use Rattle.row.specs.declared.Instruction.{Instruction}
-use Rattle.row.specs.Decoded.{instructionFrom, instructionAt, instructionIn}
+use Rattle.row.specs.Decoded.{instructionAt, instructionIn}
+use Rattle.row.proofs.Decoding.{cells-inside}
 use Rattle.book.specs.declared.Book.{Book}
 use Rattle.book.specs.declared.Outcome.{Outcome}
 use Rattle.book.specs.Cells.{cellOf, codeOf, said, kept, bookIn, bookOf, blankCells, firstOf}
@@ -129,9 +126,8 @@ module _ (N : Netlist) (b : Book) (text : List ℕ) (i : Instruction) (gate : �
 -- ---- an instruction that was decoded stands in the text whole
 
 pub standing-all : (text : List ℕ) (at : ℕ) → standingIn text (instructionAt text at) ≡ instructionAt text at
-unfolding standingIn instructionAt instructionFrom
-standing-all text at = go (lineAt text at) refl
-  where
-    go : (l : Line) → lineAt text at ≡ l → standingIn text (instructionFrom text at l) ≡ instructionFrom text at l
-    go (Frame n) e = let f = frame-fits text at n e in let z : min (n / 2 - 1) ((length text - (at + 2)) / 2) ≡ n / 2 - 1 = omega (arith, f .inside, f .even, f .least) in rw z
-    go (Refused r) e = let z : min 0 ((length text - 0) / 2) ≡ 0 = omega arith in rw z
+unfolding standingIn
+standing-all text at =
+    let i = instructionAt text at in
+    let z : min (i .cells) ((length text - i .first) / 2) ≡ i .cells = omega (arith, cells-inside text at) in
+    ap (λ n. record { set = i .set; first = i .first; cells = n; next = i .next }) z

@@ -1,6 +1,12 @@
 use native.Mathlib.Omega.{arith}
 use Prim.Native.Nat.{_-_}
-use Rattle.book.proofs.Laws.{Readied, readied-start, readied-turn, readied-end}
+use mathlib.Core.Path.{refl}
+use Rattle.rules.specs.Basics.{setAll}
+use Rattle.rules.specs.Book.{ready}
+use Rattle.lines.specs.Line.{bytesFrom}
+use Rattle.row.proofs.Turns.{Left, left-start, left-turn, left-end}
+use Rattle.book.specs.Cells.{said, kept}
+use Rattle.book.proofs.Laws.{ready-turn, kept-said}
 use borrow.Author.Needs.{needs}
 use Rattle.book.proofs.make_ready.Statement.{statement}
 use Rattle.book.proofs.make_ready.Tie as tie
@@ -10,14 +16,15 @@ use Rattle.book.proofs.put.Reads as put-reads
 use Rattle.book.proofs.cell_at.Reads as cell-at-reads
 
 abbrev Inv-loop : tie.InvT-loop
-Inv-loop cells₀ row text first k j₀ cells j = Readied row text first k cells₀ j cells
+Inv-loop cells₀ row text first k j₀ cells j =
+    Left (λ l. kept row (setAll ready l (said row cells)) cells) (kept row (setAll ready (bytesFrom text first k) (said row cells₀)) cells₀) text first k j
 
 abbrev μ-loop : tie.MeasureT-loop
 μ-loop cells₀ row text first k j₀ cells j = k - j
 
 -- src/lib.rt:116:5
 loop-holds : tie.Need-loop-holds Inv-loop μ-loop
-loop-holds c = readied-start _ _ _ _ _
+loop-holds c = left-start _ _ _ _
 
 -- src/lib.rt:117:54
 mul-cell-at : tie.Need-mul-cell-at Inv-loop μ-loop
@@ -45,11 +52,12 @@ loop-less c = omega arith
 
 -- src/lib.rt:116:5
 loop-again : tie.Need-loop-again Inv-loop μ-loop
-loop-again c = readied-turn (c .before .before .before .before .loop .inv) _ _ (c .before .before .before .loop-test .taken) (c .before .cell-at .ensures) (c .put .ensures)
+loop-again c = left-turn (c .before .before .before .before .loop .inv) _ _ (c .before .before .before .loop-test .taken) (c .before .cell-at .ensures) (ready-turn _ _ _ _ _ (c .put .ensures))
 
 -- src/lib.rt:111:1
 returns : tie.Need-returns Inv-loop μ-loop
-returns c = readied-end (c .before .loop .inv) (c .loop-test .left)
+unfolding setAll
+returns c = left-end (c .before .loop .inv) _ (c .loop-test .left) (kept-said _ _)
 
 pub make-ready-spec : {M : Type 1} → statement M
 make-ready-spec =
