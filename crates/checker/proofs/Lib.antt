@@ -1,0 +1,4 @@
+pub mod Placing
+pub mod Printing
+pub mod Heads
+pub mod Ordering
