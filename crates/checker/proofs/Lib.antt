@@ -2,3 +2,6 @@ pub mod Placing
 pub mod Printing
 pub mod Heads
 pub mod Ordering
+pub mod Matching
+pub mod Finding
+pub mod Gating

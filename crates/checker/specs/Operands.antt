@@ -15,6 +15,9 @@ use Rattle.checker.specs.declared.operands.Operands.{Operands}
 unfoldable pub fourOf : List ℕ → Four
 fourOf l = record { a = getD l 0 65535; b = getD l 1 65535; c = getD l 2 65535; d = getD l 3 65535 }
 
+abbrev pub listOf : Four → List ℕ
+listOf f = f .a ∷ f .b ∷ f .c ∷ f .d ∷ []
+
 -- one more signal, in its place; the last goes
 unfoldable pub insertFour : ℕ → Four → Four
 insertFour x f =

@@ -1,5 +1,6 @@
 // The checker of sequences from any producer.
 
+mod gates;
 mod operands;
 mod places;
 mod print;

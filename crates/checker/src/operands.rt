@@ -2,11 +2,12 @@
 ghost use mathlib.Core.Path.{_≡_};
 ghost use mathlib.Core.List.{map, []};
 ghost use Prim.Native.Nat.{_+_, _-_, _*_, _≤_};
-ghost use lib.ListN.{length};
+ghost use lib.ListN.{length, take};
 ghost use Rattle.rules.specs.Book.{signals};
 ghost use Rattle.lines.specs.Line.{bytesFrom};
 ghost use Rattle.book.specs.Cells.{said};
-ghost use Rattle.checker.specs.Operands.{fourOf, insertFour, operandsOf, lowCell};
+ghost use Rattle.index.specs.Chains.{keyOf};
+ghost use Rattle.checker.specs.Operands.{fourOf, listOf, insertFour, operandsOf, lowCell};
 
 // At most four signals, lowest first; 65535 where there is none.
 pub struct Four {
@@ -97,4 +98,13 @@ pub(crate) fn read(cells: &[u16; 256], row: usize, text: &[u8], first: usize, k:
         all: true,
         four: four,
     }
+}
+
+// The key of the first n of them.
+pub(crate) fn key(f: Four, n: usize) -> u64
+    requires { ⌜ n ≤ 4 ⌝ }
+    ensures { λ r. ⌜ r ≡ keyOf (take n (listOf f)) ⌝ }
+{
+    let os = [f.a, f.b, f.c, f.d];
+    index::key(&os[..n])
 }
