@@ -5,3 +5,4 @@ pub mod Ordering
 pub mod Matching
 pub mod Finding
 pub mod Gating
+pub mod Working

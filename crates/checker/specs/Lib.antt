@@ -1,3 +1,4 @@
 pub mod Places
 pub mod Operands
 pub mod Gates
+pub mod Works

@@ -4,3 +4,4 @@ mod gates;
 mod operands;
 mod places;
 mod print;
+mod work;
