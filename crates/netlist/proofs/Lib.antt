@@ -7,3 +7,6 @@ pub mod Numbered
 pub mod Whole
 pub mod Well
 pub mod FlatWell
+pub mod Marking
+pub mod Keyed
+pub mod Alike

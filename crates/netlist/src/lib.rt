@@ -12,6 +12,8 @@ use rules::Refusal;
 
 mod body;
 mod line;
+mod twins;
+mod used;
 
 // A netlist. Operand k of gate g, counted from 0, is ops[4 g + k], of counts[g]; gate g is the signal inputs + g.
 pub struct Netlist {
