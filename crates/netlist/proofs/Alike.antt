@@ -37,7 +37,7 @@ unfolding any
 none-seen [] = refl
 none-seen (x ∷ l) = rw (none-marked x, none-seen l)
 
-or-nothing : (a : Bool) → (a || false) ≡ a
+pub or-nothing : (a : Bool) → (a || false) ≡ a
 or-nothing true = refl
 or-nothing false = refl
 
@@ -119,7 +119,7 @@ module _ {outs : List ℕ} {n : ℕ} {seen : List ℕ} {k : ℕ} (w : Seeing out
 
 -- ---- gates
 
-any-snoc : {A : Type 0} (p : A → Bool) (l : List A) (x : A) → any p (l ++ (x ∷ [])) ≡ (any p l || p x)
+pub any-snoc : {A : Type 0} (p : A → Bool) (l : List A) (x : A) → any p (l ++ (x ∷ [])) ≡ (any p l || p x)
 unfolding any
 any-snoc p [] x = or-nothing (p x)
 any-snoc p (y ∷ l) x = rw (any-snoc p l x) (groups (p y) (any p l) (p x))
@@ -128,7 +128,7 @@ any-snoc p (y ∷ l) x = rw (any-snoc p l x) (groups (p y) (any p l) (p x))
     groups true b c = refl
     groups false b c = refl
 
-twins-snoc : (gs : List (List ℕ)) (x : List ℕ) → twins (gs ++ (x ∷ [])) ≡ (twins gs || any (λ g. sameList g x) gs)
+pub twins-snoc : (gs : List (List ℕ)) (x : List ℕ) → twins (gs ++ (x ∷ [])) ≡ (twins gs || any (λ g. sameList g x) gs)
 unfolding twins any
 twins-snoc [] x = refl
 twins-snoc (g ∷ gs) x =
@@ -150,10 +150,10 @@ module _ (n : Netlist) (w : WellFlat n) where
   abbrev keys : List ℕ
   keys = keysIn n
 
-  gate-few : (g : ℕ) → g < n .gates → length (gate g) ≤ 4
+  pub gate-few : (g : ℕ) → g < n .gates → length (gate g) ≤ 4
   gate-few g h = omega (arith, length-gate (n .ops) (n .counts) g, w .few g h)
 
-  gate-low : (g : ℕ) → g < n .gates → (k : ℕ) → k < length (gate g) → getD (gate g) k 0 < 1024
+  pub gate-low : (g : ℕ) → g < n .gates → (k : ℕ) → k < length (gate g) → getD (gate g) k 0 < 1024
   unfolding gateIn
   gate-low g h k l =
       let m : k < getD (n .counts) g 0 = omega (arith, length-gate (n .ops) (n .counts) g) in

@@ -14,10 +14,10 @@ use Rattle.rules.specs.Netlist as rules
 use Rattle.rules.specs.Netlist.{Part, netlistLines, netlistOf}
 use Rattle.netlist.specs.declared.Netlist.{Netlist}
 use Rattle.netlist.specs.declared.Reading.{Reading}
-use Rattle.netlist.specs.Flat.{from, gateIn, gatesIn, netlistIn, readingOf, partOf}
+use Rattle.netlist.specs.Flat.{from, gateIn, gatesIn, netlistIn, readingOf, partOf, frontOf}
 use Rattle.netlist.specs.Well.{Well, WellLines, WellFlat}
 use Rattle.netlist.proofs.Arrays.{length-from, getD-from, mem-from, length-gate, length-gates, getD-gates}
-use Rattle.netlist.proofs.Well.{well-lines, well, lines-of}
+use Rattle.netlist.proofs.Well.{well-lines, well, well-front, lines-of}
 
 module _ (n : Netlist) (w : WellLines (netlistIn n)) where
   abbrev gates : List (List ℕ)
@@ -81,3 +81,15 @@ module _ (text : List ℕ) (r : Reading) (e : readingOf r ≡ netlistOf form01 t
 
   pub read-flat : WellFlat (r .netlist)
   read-flat = flat (r .netlist) (lines-of (netlistIn (r .netlist)) read-well)
+
+-- what `read_front` answers
+module _ (text : List ℕ) (r : Reading) (e : partOf text r ≡ frontOf text) (z : r .refusal .number ≡ 0) where
+  pub front-good : frontOf text ≡ good (record { got = netlistIn (r .netlist); tail = drop (r .tail) text })
+  unfolding partOf pick
+  front-good = sym e ∙ rw (eq-eqb (r .refusal .number) 0 z)
+
+  pub front-well : Well (netlistIn (r .netlist))
+  front-well = well-front text (record { got = netlistIn (r .netlist); tail = drop (r .tail) text }) front-good
+
+  pub front-flat : WellFlat (r .netlist)
+  front-flat = flat (r .netlist) (lines-of (netlistIn (r .netlist)) front-well)

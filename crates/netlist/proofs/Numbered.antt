@@ -11,7 +11,8 @@ use Rattle.rules.specs.declared.Refusal.{Refusal}
 use Rattle.rules.specs.Basics.{pick, within, all, ascending}
 use Rattle.rules.specs.Form.{form01, one, two}
 use Rattle.rules.specs.Refusals.{Res, good, refused, refuse, _>>=_, _>>_, require, orRefuse}
-use Rattle.rules.specs.Lines.{isLine, firstLine, line, numbers, fields}
+use Rattle.rules.specs.Lines.{isLine, firstLine, line, nothing, numbers, fields}
+use Rattle.rules.proofs.Laws.{no-way}
 use Rattle.rules.specs.Netlist.{Netlist, Part, due, Head, headOf, gateOf, outputOf, lines, netlistLines}
 
 data Numbered {A : Type 0} : Res A → Type 0 where
@@ -100,3 +101,13 @@ numbered text r e = go (subst Numbered e (numbered-netlist text))
   where
     go : Numbered {A = Part Netlist} (refused r) → 1 ≤ r .number
     go (number h) = h
+
+-- a line too many: 2 or 1
+pub numbered-end : (text : List ℕ) (r : Refusal) → nothing form01 text ≡ refused r → 1 ≤ r .number
+unfolding nothing pick
+numbered-end [] r e = absurd (no-way (cc))
+numbered-end (c ∷ t) r e = go (isLine form01 (c ∷ t)) e
+  where
+    go : (u : Bool) → _≡_ {A = Res (Unit {0})} (pick u (refuse 2) (refuse 1)) (refused r) → 1 ≤ r .number
+    go true f = let z : record { number = 2 } ≡ r = cc in rw (← z) (omega arith)
+    go false f = let z : record { number = 1 } ≡ r = cc in rw (← z) (omega arith)

@@ -1,4 +1,4 @@
--- Laws of one line: what its kind, its length and its words make of it.
+-- Laws of one line: what its kind and its length make of it, and a gate's operands.
 use Prim.Native.Nat.{ℕ, zero, suc, _+_, _-_, _*_, _/_, _%_, _<_, _≤_}
 use native.Mathlib.Omega.{arith}
 use mathlib.Core.Path.{_≡_, refl, sym, ap, _∙_, subst}
@@ -44,7 +44,7 @@ pub told : (text : List ℕ) (at : ℕ) {l : Line} {r : Refusal} (q : Refusal) �
 told text at q e f g = sym e ∙ f ∙ ap lines.Refused (sym (g ∙ ap refusalOf f))
 
 -- a frame has at least its kind
-half : (text : List ℕ) (at n : ℕ) → lineAt text at ≡ lines.Frame n → n / 2 ≡ suc (n / 2 - 1)
+pub half : (text : List ℕ) (at n : ℕ) → lineAt text at ≡ lines.Frame n → n / 2 ≡ suc (n / 2 - 1)
 half text at n e = let f = frame-fits text at n e in omega (arith, f .least)
 
 pub word-fits : (r : ℕ) (s : List ℕ) (i : ℕ) → r ≡ wordAt s i → r < 65536
@@ -113,149 +113,4 @@ module _ (text : List ℕ) (at : ℕ) where
             record {
               means = rw c (sym (by-line operandsIn text at n e ∙ rw g));
               fits = λ k z. let q : n / 4 ≡ k = cc in subst (OperandsFit text at) q (record { least = a; most = b; inside = omega (arith, f .inside) });
-            }
-
--- ---- the head
-
-no-head : {r : Refusal} {i g o : ℕ} → head.Refused r ≡ head.Of i g o → ⊥
-no-head e = no-way (cc)
-
-within-most : (most n : ℕ) → within 1 most n ≡ true → n ≤ most
-within-most most n e = leb-true n most (and-true (leb 1 n) (leb n most) e .1)
-
-numbers-fit : (text : List ℕ) (i g o a b c : ℕ) → 11 ≤ length text → headNumbers i g o ≡ head.Of a b c → HeadFits text a b c
-unfolding headNumbers pick
-numbers-fit text i g o a b c long e = go (within 1 64 i) (within 1 512 g) (within 1 64 o) refl refl refl e
-  where
-    go : (t u v : Bool) → within 1 64 i ≡ t → within 1 512 g ≡ u → within 1 64 o ≡ v
-        → pick t (pick u (pick v (head.Of i g o) (head.Refused (record { number = 3 }))) (head.Refused (record { number = 3 }))) (head.Refused (record { number = 3 })) ≡ head.Of a b c
-        → HeadFits text a b c
-    go true true true p q r z =
-        let x : i ≡ a = cc in
-        let y : g ≡ b = cc in
-        let w : o ≡ c = cc in
-        record {
-          inputsMost = rw (← x) (within-most 64 i p);
-          gatesMost = rw (← y) (within-most 512 g q);
-          outputsMost = rw (← w) (within-most 64 o r);
-          inside = long;
-        }
-    go true true false p q r z = absurd (no-head z)
-    go true false v p q r z = absurd (no-head z)
-    go false u v p q r z = absurd (no-head z)
-
-module _ (text : List ℕ) where
-  pub head-none : (r : Refusal) → lineAt text 0 ≡ lines.Refused r → HeadRead text (head.Refused r)
-  unfolding headMeant
-  head-none r e = record { means = sym (by-none (headOf form01) text 0 r e); fits = λ i g o z. absurd (no-head z) }
-
-  module _ (n : ℕ) (e : lineAt text 0 ≡ lines.Frame n) where
-    head-refused : (k : ℕ) → headOf form01 (bytesFrom text 0 (n / 2)) ≡ refuse k → HeadRead text (head.Refused (record { number = k }))
-    unfolding headMeant _>>=_
-    head-refused k f = record { means = sym (by-line (headOf form01) text 0 n e ∙ rw f); fits = λ i g o z. absurd (no-head z) }
-
-    pub head-kind : (byteAt text 0 ≡ 1 → ⊥) → HeadRead text (head.Refused (record { number = 2 }))
-    unfolding headOf bytesFrom due form01 pick _>>=_
-    head-kind h = head-refused 2 (rw (half text 0 n e, ne-eqb (byteAt text 0) 1 h))
-
-    module _ (kind : byteAt text 0 ≡ 1) where
-      -- four bytes after the kind, or none of the fields fit
-      fields-not : (k : ℕ) (at : ℕ) → (k ≡ 4 → ⊥) → fields (one ∷ two ∷ one ∷ []) (bytesFrom text at k) ≡ none
-      unfolding fields bytesFrom also
-      fields-not zero at h = refl
-      fields-not (suc zero) at h = refl
-      fields-not (suc (suc zero)) at h = refl
-      fields-not (suc (suc (suc zero))) at h = refl
-      fields-not (suc (suc (suc (suc zero)))) at h = absurd (h refl)
-      fields-not (suc (suc (suc (suc (suc k))))) at h = refl
-
-      pub head-long : (n ≡ 10 → ⊥) → HeadRead text (head.Refused (record { number = 2 }))
-      unfolding headOf bytesFrom due form01 pick _>>=_ orRefuse
-      head-long h =
-          let f = frame-fits text 0 n e in
-          head-refused 2 (rw (half text 0 n e, eq-eqb (byteAt text 0) 1 kind, fields-not (n / 2 - 1) 2 (λ z. h (omega (arith, f .even, f .least)))))
-
-      pub head-good : n ≡ 10 → HeadRead text (headNumbers (byteAt text 2) (wordAt text 4) (byteAt text 8))
-      unfolding headMeant headNumbers headOf bytesFrom due form01 pick _>>=_ _>>_ orRefuse require fields also wordAt
-      head-good h =
-          record {
-            means =
-                rw (by-line (headOf form01) text 0 n e, h, eq-eqb (byteAt text 0) 1 kind)
-                (numbers-pass (byteAt text 2) (wordAt text 4) (byteAt text 8) (within 1 64 (byteAt text 2)) (within 1 512 (wordAt text 4)) (within 1 64 (byteAt text 8)));
-            fits = λ a b c z. numbers-fit text (byteAt text 2) (wordAt text 4) (byteAt text 8) a b c (omega (arith, frame-fits text 0 n e .inside, h)) z;
-          }
-        where
-          numbers-pass : (i g o : ℕ) (t u v : Bool)
-              → headMeant text (pick t (pick u (pick v (head.Of i g o) (head.Refused (record { number = 3 }))) (head.Refused (record { number = 3 }))) (head.Refused (record { number = 3 })))
-              ≡ (require t 3 >> (require u 3 >> (require v 3 >> good (record { inputs = i; gates = g; outputs = o })))
-              >>= λ a. good (record { got = a; tail = drop 11 text }))
-          numbers-pass i g o true true true = refl
-          numbers-pass i g o true true false = refl
-          numbers-pass i g o true false v = refl
-          numbers-pass i g o false u v = refl
-
--- ---- an output
-
-module _ (text : List ℕ) (at inputs gates : ℕ) where
-  pub output-none : (r : Refusal) → lineAt text at ≡ lines.Refused r → OutputRead text at inputs gates (Refused r)
-  unfolding outputMeant
-  output-none r e = record {
-    means = λ o. sym (by-none (outputOf form01 (record { inputs = inputs; gates = gates; outputs = o })) text at r e);
-    fits = λ s f. absurd (none-given f);
-  }
-
-  module _ (n : ℕ) (e : lineAt text at ≡ lines.Frame n) where
-    output-refused : (k : ℕ) → ((o : ℕ) → outputOf form01 (record { inputs = inputs; gates = gates; outputs = o }) (bytesFrom text at (n / 2)) ≡ refuse k)
-        → OutputRead text at inputs gates (Refused (record { number = k }))
-    unfolding outputMeant _>>=_
-    output-refused k f = record {
-      means = λ o. sym (by-line (outputOf form01 (record { inputs = inputs; gates = gates; outputs = o })) text at n e ∙ rw (f o));
-      fits = λ s z. absurd (none-given z);
-    }
-
-    pub output-kind : (byteAt text at ≡ 3 → ⊥) → OutputRead text at inputs gates (Refused (record { number = 2 }))
-    unfolding outputOf bytesFrom due form01 pick _>>=_
-    output-kind h = output-refused 2 (λ o. rw (half text at n e, ne-eqb (byteAt text at) 3 h))
-
-    module _ (kind : byteAt text at ≡ 3) where
-      word-not : (k p : ℕ) → (k ≡ 2 → ⊥) → fields (two ∷ []) (bytesFrom text p k) ≡ none
-      unfolding fields bytesFrom also
-      word-not zero p h = refl
-      word-not (suc zero) p h = refl
-      word-not (suc (suc zero)) p h = absurd (h refl)
-      word-not (suc (suc (suc k))) p h = refl
-
-      pub output-long : (n ≡ 6 → ⊥) → OutputRead text at inputs gates (Refused (record { number = 2 }))
-      unfolding outputOf bytesFrom due form01 pick _>>=_ orRefuse
-      output-long h =
-          let f = frame-fits text at n e in
-          output-refused 2 (λ o. rw (half text at n e, eq-eqb (byteAt text at) 3 kind, word-not (n / 2 - 1) (at + 2) (λ z. h (omega (arith, f .even, f .least)))))
-
-      module _ (six : n ≡ 6) (s : ℕ) (is : s ≡ wordAt text (at + 2)) where
-        two-on : at + 2 + 2 ≡ at + 4
-        two-on = omega arith
-
-        named-output : (o : ℕ) → outputOf form01 (record { inputs = inputs; gates = gates; outputs = o }) (bytesFrom text at (n / 2))
-            ≡ (require (leb inputs s && ltb s (inputs + gates)) 4 >> good s)
-        unfolding outputOf bytesFrom due form01 pick _>>=_ orRefuse fields also wordAt
-        named-output o = rw (six, is, eq-eqb (byteAt text at) 3 kind)
-
-        pub output-low : s < inputs → OutputRead text at inputs gates (Refused (record { number = 4 }))
-        unfolding _>>_ require
-        output-low h = output-refused 4 (λ o. named-output o ∙ rw (lt-leb inputs s h))
-
-        pub output-high : inputs ≤ s → inputs + gates ≤ s → OutputRead text at inputs gates (Refused (record { number = 4 }))
-        unfolding _>>_ require
-        output-high l h = output-refused 4 (λ o. named-output o ∙ rw (le-leb inputs s l, le-ltb s (inputs + gates) h))
-
-        pub output-good : inputs ≤ s → s < inputs + gates → OutputRead text at inputs gates (Given s)
-        unfolding outputMeant _>>=_ _>>_ require
-        output-good l h =
-            let f = frame-fits text at n e in
-            let c : at + n + 1 ≡ at + 7 = omega (arith, six) in
-            record {
-              means = λ o.
-                  let g = named-output o in
-                  sym (by-line (outputOf form01 (record { inputs = inputs; gates = gates; outputs = o })) text at n e ∙ rw (c, g, le-leb inputs s l, lt-ltb s (inputs + gates) h));
-              fits = λ k z. let q : s ≡ k = cc in subst (OutputFits text at (inputs + gates)) q (record { inside = omega (arith, f .inside, six); low = h });
             }

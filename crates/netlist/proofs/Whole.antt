@@ -5,8 +5,8 @@ use mathlib.Core.Path.{_≡_, refl, sym, ap, _∙_, subst}
 use mathlib.Core.Bool.{Bool, true, false}
 use mathlib.Core.List.{List, [], _∷_, _++_}
 use lib.Dec.{eqb}
-use lib.ListN.{getD, length, take, drop, length-drop, drop-of-length-le}
-use lib.Seq.{take-all, drop-length}
+use lib.ListN.{getD, length, drop}
+use lib.Seq.{drop-length}
 use borrow.Author.Tests.{eq-eqb, ne-eqb, eqb-true}
 use Rattle.rules.specs.declared.Refusal.{Refusal}
 use Rattle.rules.specs.declared.Answer.{Answer}
@@ -109,19 +109,11 @@ module _ (text : List ℕ) (h : Head) (i g o : ℕ) (w : HeadRead text h) (e : h
 
 -- ---- the tail
 
--- the part of a slice from a place to its end
-from-place : (s : List ℕ) (a : ℕ) → take (length s - a) (drop a s) ≡ drop a s
-from-place s a = take-all (length s - a) (drop a s) (omega (arith, length-drop a s))
-
 module _ (text : List ℕ) (q : Reading) (w : partOf text q ≡ netlistLines form01 text) where
-  pub tail-none : (q .refusal .number ≡ 0 → ⊥) → take (length text - length text) (drop (length text) text) ≡ tailOutcome text
+  pub tail-none : (q .refusal .number ≡ 0 → ⊥) → drop (length text) text ≡ tailOutcome text
   unfolding tailOutcome netlistTail tailOf partOf pick
-  tail-none h = from-place text (length text) ∙ drop-length text ∙ sym (ap tailOf (sym w) ∙ rw (ne-eqb (q .refusal .number) 0 h))
+  tail-none h = drop-length text ∙ sym (ap tailOf (sym w) ∙ rw (ne-eqb (q .refusal .number) 0 h))
 
-  module _ (h : q .refusal .number ≡ 0) where
-    pub tail-read : take (length text - q .tail) (drop (q .tail) text) ≡ tailOutcome text
-    unfolding tailOutcome netlistTail tailOf partOf pick
-    tail-read = from-place text (q .tail) ∙ sym (ap tailOf (sym w) ∙ rw (eq-eqb (q .refusal .number) 0 h))
-
-    pub tail-past : length text ≤ q .tail → take (length text - length text) (drop (length text) text) ≡ tailOutcome text
-    tail-past l = from-place text (length text) ∙ drop-length text ∙ sym (drop-of-length-le text l) ∙ sym (from-place text (q .tail)) ∙ tail-read
+  pub tail-read : q .refusal .number ≡ 0 → drop (q .tail) text ≡ tailOutcome text
+  unfolding tailOutcome netlistTail tailOf partOf pick
+  tail-read h = sym (ap tailOf (sym w) ∙ rw (eq-eqb (q .refusal .number) 0 h))

@@ -2,15 +2,17 @@
 ghost use mathlib.Core.Path.{_≡_};
 ghost use lib.ListN.{length};
 ghost use Rattle.rules.specs.Form.{form01};
-ghost use Rattle.rules.specs.Netlist.{netlistLines};
+ghost use Rattle.rules.specs.Netlist.{netlistLines, netlistOf, wellFormed};
 ghost use Rattle.rules.specs.Calls.{tailOutcome};
-ghost use Rattle.netlist.specs.Flat.{partOf};
+ghost use Rattle.netlist.specs.Flat.{netlistIn, partOf, readingOf, formedOf, frontOf, Judged};
 ghost use Rattle.netlist.specs.Steps.{refusalIn};
+ghost use Rattle.netlist.specs.Well.{WellFlat};
 use line::Head;
 use rules::Answer;
 use rules::Refusal;
 
 mod body;
+pub mod keys;
 mod line;
 mod twins;
 mod used;
@@ -124,14 +126,68 @@ pub fn tail(text: &[u8]) -> &[u8]
 {
     let r = read_lines(text);
     let number = r.refusal.number;
-    let at = r.tail;
     if number != 0 {
-        let end = text.len();
-        return &text[end..];
+        return slices::rest8(text, text.len());
     }
-    if text.len() <= at {
-        let end = text.len();
-        return &text[end..];
+    slices::rest8(text, r.tail)
+}
+
+// 6, then 7; number 0 where there is none.
+fn well_formed(n: Netlist) -> Refusal
+    requires { ⌜ WellFlat n ⌝ }
+    ensures { λ r. ⌜ formedOf r (netlistIn n) ≡ wellFormed (netlistIn n) ⌝ }
+{
+    if !used::all_used(n) {
+        return Refusal { number: 6 };
     }
-    &text[at..]
+    if twins::twin_gates(n) {
+        return Refusal { number: 7 };
+    }
+    if twins::twin_outputs(n) {
+        return Refusal { number: 7 };
+    }
+    Refusal { number: 0 }
+}
+
+// A reading of lines, with 6 and 7 asked of its netlist.
+fn judged(r: Reading) -> Reading
+    requires { ⌜ WellFlat (r .netlist) ⌝ }
+    ensures { λ q. ⌜ Judged r q ⌝ }
+{
+    let tail = r.tail;
+    let netlist = r.netlist;
+    let refusal = well_formed(netlist);
+    Reading {
+        refusal,
+        tail,
+        netlist,
+    }
+}
+
+// The netlist that a text begins with, whatever follows its last output line: 1 to 5, then 6, then 7.
+pub fn read_front(text: &[u8]) -> Reading
+    ensures { λ r. ⌜ partOf (now (text .entry)) r ≡ frontOf (now (text .entry)) ⌝ }
+{
+    let r = read_lines(text);
+    let number = r.refusal.number;
+    if number != 0 {
+        return r;
+    }
+    judged(r)
+}
+
+// The netlist that is the whole text: 1 to 5, then a line too many (2 or 1), then 6, then 7.
+pub fn read(text: &[u8]) -> Reading
+    ensures { λ r. ⌜ readingOf r ≡ netlistOf form01 (now (text .entry)) ⌝ }
+{
+    let r = read_lines(text);
+    let number = r.refusal.number;
+    if number != 0 {
+        return r;
+    }
+    let a = lines::ends(text, r.tail);
+    let Answer::Given(_) = a else {
+        return refused(refusal(a), text.len());
+    };
+    judged(r)
 }

@@ -7,8 +7,8 @@ ghost use Rattle.netlist.specs.Flat.{from, gatesIn, netlistIn};
 ghost use Rattle.netlist.specs.Marks.{noMarks, marked, markedBy};
 ghost use Rattle.netlist.specs.Well.{WellFlat};
 use crate::Netlist;
-use slices::at16;
 use slices::at8;
+use slices::at16;
 use slices::put8;
 
 pub(crate) fn no_marks() -> [u8; 576]

@@ -1,6 +1,6 @@
 // Entries of lent slices: 0 past the end, and a write past the end changes nothing. So every call takes any slice and any place.
 ghost use mathlib.Core.Path.{_≡_};
-ghost use lib.ListN.{getD, set};
+ghost use lib.ListN.{getD, set, drop};
 
 pub fn at8(s: &[u8], i: usize) -> u8
     ensures { λ r. ⌜ r ≡ getD (now (s .entry)) i 0 ⌝ }
@@ -51,4 +51,15 @@ pub fn put64(s: &mut [u64], i: usize, v: u64)
     if i < s.len() {
         s[i] = v;
     }
+}
+
+// The part of a slice from a place on; the empty part at its end, past the end.
+pub fn rest8(s: &[u8], at: usize) -> &[u8]
+    ensures { λ r. ⌜ now r ≡ drop at (now (s .entry)) ⌝ }
+{
+    if at < s.len() {
+        return &s[at..];
+    }
+    let end = s.len();
+    &s[end..]
 }

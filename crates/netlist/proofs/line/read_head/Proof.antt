@@ -1,6 +1,7 @@
 use mathlib.Core.Path.{sym, _∙_, subst}
 use Rattle.netlist.specs.Steps.{HeadRead}
-use Rattle.netlist.proofs.OneLine.{told, head-none, head-kind, head-long, head-good}
+use Rattle.netlist.proofs.OneLine.{told}
+use Rattle.netlist.proofs.HeadLine.{head-none, head-kind, head-long, head-good}
 use borrow.Author.Needs.{needs}
 use Rattle.netlist.proofs.line.read_head.Statement.{statement}
 use Rattle.netlist.proofs.line.read_head.Tie as tie

@@ -1,7 +1,8 @@
 use native.Mathlib.Omega.{arith}
 use mathlib.Core.Path.{sym, _∙_}
 use Rattle.lines.proofs.Meaning.{frame-fits}
-use Rattle.netlist.proofs.OneLine.{told, output-none, output-kind, output-long, output-low, output-high, output-good}
+use Rattle.netlist.proofs.OneLine.{told}
+use Rattle.netlist.proofs.OutputLine.{output-none, output-kind, output-long, output-low, output-high, output-good}
 use borrow.Author.Needs.{needs}
 use Rattle.netlist.proofs.line.read_output.Statement.{statement}
 use Rattle.netlist.proofs.line.read_output.Tie as tie

@@ -7,7 +7,7 @@ use Rattle.netlist.proofs.twins.twin_gates.Reads as reads
 use Rattle.netlist.proofs.twins.twin_gates.Lts as lts
 use Rattle.index.proofs.chain.Reads as chain-reads
 use Rattle.index.proofs.twice.Reads as twice-reads
-use Rattle.netlist.proofs.twins.gate_keys.Reads as gate-keys-reads
+use Rattle.netlist.proofs.keys.gate_keys.Reads as gate-keys-reads
 
 -- src/twins.rt:65:16
 gate-keys-requires : tie.Need-gate-keys-requires

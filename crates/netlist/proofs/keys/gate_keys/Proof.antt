@@ -4,13 +4,13 @@ use mathlib.Core.Path.{_∙_, ap}
 use borrow.Author.Needs.{needs}
 use Rattle.netlist.specs.Keys.{keysTo, keysIn}
 use Rattle.netlist.proofs.Keyed.{Keying, keying-start, keying-turn, keying-end}
-use Rattle.netlist.proofs.twins.gate_keys.Statement.{statement}
-use Rattle.netlist.proofs.twins.gate_keys.Tie as tie
-use Rattle.netlist.proofs.twins.gate_keys.Reads as reads
-use Rattle.netlist.proofs.twins.gate_keys.Lts as lts
-use Rattle.netlist.proofs.twins.at_most.Reads as at-most-reads
-use Rattle.netlist.proofs.twins.gate_key.Reads as gate-key-reads
-use Rattle.netlist.proofs.twins.no_keys.Reads as no-keys-reads
+use Rattle.netlist.proofs.keys.gate_keys.Statement.{statement}
+use Rattle.netlist.proofs.keys.gate_keys.Tie as tie
+use Rattle.netlist.proofs.keys.gate_keys.Reads as reads
+use Rattle.netlist.proofs.keys.gate_keys.Lts as lts
+use Rattle.netlist.proofs.keys.at_most.Reads as at-most-reads
+use Rattle.netlist.proofs.keys.gate_key.Reads as gate-key-reads
+use Rattle.netlist.proofs.keys.no_keys.Reads as no-keys-reads
 
 abbrev Inv-loop : tie.InvT-loop
 Inv-loop most ops counts keys₀ g₀ keys g = Keying ops counts most keys g

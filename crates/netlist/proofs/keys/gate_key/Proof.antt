@@ -1,11 +1,11 @@
 use Rattle.netlist.proofs.Keyed.{key-from}
 use borrow.Author.Needs.{needs}
-use Rattle.netlist.proofs.twins.gate_key.Statement.{statement}
-use Rattle.netlist.proofs.twins.gate_key.Tie as tie
-use Rattle.netlist.proofs.twins.gate_key.Reads as reads
-use Rattle.netlist.proofs.twins.gate_key.Lts as lts
+use Rattle.netlist.proofs.keys.gate_key.Statement.{statement}
+use Rattle.netlist.proofs.keys.gate_key.Tie as tie
+use Rattle.netlist.proofs.keys.gate_key.Reads as reads
+use Rattle.netlist.proofs.keys.gate_key.Lts as lts
 use Rattle.index.proofs.key.Reads as key-reads
-use Rattle.netlist.proofs.twins.at_most.Reads as at-most-reads
+use Rattle.netlist.proofs.keys.at_most.Reads as at-most-reads
 use Rattle.slices.proofs.at8.Reads as at8-reads
 
 -- src/twins.rt:31:24
