@@ -11,26 +11,29 @@ use lib.Dec.{ltb}
 use lib.ListN.{getD, length, List·getD-map}
 use borrow.Author.Tests.{ltb-true, ltb-false, le-ltb, lt-ltb}
 use Rattle.rules.specs.Basics.{pick, mem, sort}
-use Rattle.rules.specs.Netlist.{Netlist}
 use Rattle.rules.specs.Sequence.{Set, Nor}
 use Rattle.rules.specs.Book.{Cell, unknown, ready, holds, ifHolds, signals, gateWith, gateOn}
-use Rattle.rules.proofs.Laws.{no-way, cons-cases, cons-more, cons-self, mem-nil}
+use Rattle.rules.proofs.Laws.{no-way, cons-cases, cons-more, cons-self, mem-nil, gateWith-spec}
 use Rattle.lines.specs.Line.{byteAt, bytesFrom}
 use Rattle.row.specs.declared.Instruction.{Instruction}
 use Rattle.row.specs.Decoded.{instructionIn}
 use Rattle.row.proofs.Judging.{length-bytes}
+use Rattle.netlist.specs.declared.Netlist.{Netlist}
+use Rattle.netlist.specs.Flat.{gatesIn, netlistIn}
 use Rattle.netlist.specs.Well.{Well}
+use Rattle.netlist.specs.Keys.{foundGate}
+use Rattle.netlist.proofs.Well.{lines-of}
+use Rattle.netlist.proofs.FlatWell.{flat}
+use Rattle.netlist.proofs.Finding.{finds}
 use Rattle.index.specs.declared.Found.{Found}
 use Rattle.index.specs.declared.Found.the-variants.{At, Nothing}
-use Rattle.index.specs.Chains.{keyOf, chained, foundIn, seek}
-use Rattle.index.proofs.Keys.{key-same}
-use Rattle.index.proofs.Seeking.{found-chained}
+use Rattle.index.specs.Chains.{keyOf, foundIn}
 use Rattle.book.specs.Steps.{gateIn, gateFor}
 use Rattle.checker.specs.Operands.{lowCell}
 use Rattle.checker.specs.Gates.{codeFound, gateOver, gateMade, Indexed}
 use Rattle.checker.proofs.Ordering.{sort-long}
 use Rattle.checker.proofs.Matching.{signals-long, code-at}
-use Rattle.checker.proofs.Finding.{none-with, some-with, apart, seek-at, seek-none, Low, mem-sort, low-at}
+use Rattle.checker.proofs.Finding.{none-with, Low, mem-sort, low-at}
 
 -- ---- operand cells whose signals are low
 
@@ -86,48 +89,49 @@ past-one book (c ∷ os) ss e f = go (getD book c unknown) (signals book os) ref
 
 -- ---- the gate
 
-module _ (N : Netlist) (w : Well N) where
-  gate-low : (j : ℕ) → j < length (N .gates) → Low (getD (N .gates) j [])
-  gate-low j u o m = omega (arith, w .lower j o m, w .inputsMost, w .gatesMost)
+module _ (n : Netlist) (w : Well (netlistIn n)) where
+  abbrev gates : List (List ℕ)
+  gates = gatesIn (n .ops) (n .counts) (n .gates)
 
   -- no gate has no operand, more than four, or one past 1023
-  none-empty : gateWith [] (N .inputs) (N .gates) ≡ none
-  none-empty = none-with [] (N .inputs) (N .gates) (λ j u e. omega (arith, w .some j u, ap length e))
+  none-empty : gateWith [] (n .inputs) gates ≡ none
+  unfolding netlistIn
+  none-empty = none-with [] (n .inputs) gates (λ j u e. omega (arith, w .some j u, ap length e))
 
-  none-long : (l : List ℕ) → 4 < length l → gateWith l (N .inputs) (N .gates) ≡ none
-  none-long l h = none-with l (N .inputs) (N .gates) (λ j u e. omega (arith, w .few j, ap length e))
+  none-long : (l : List ℕ) → 4 < length l → gateWith l (n .inputs) gates ≡ none
+  unfolding netlistIn
+  none-long l h = none-with l (n .inputs) gates (λ j u e. omega (arith, w .few j, ap length e))
 
-  none-past : (l : List ℕ) (s : ℕ) → mem s l ≡ true → 1024 ≤ s → gateWith l (N .inputs) (N .gates) ≡ none
-  none-past l s m h = none-with l (N .inputs) (N .gates) (λ j u e. omega (arith, gate-low j u s (rw e m)))
+  none-past : (l : List ℕ) (s : ℕ) → mem s l ≡ true → 1024 ≤ s → gateWith l (n .inputs) gates ≡ none
+  unfolding netlistIn
+  none-past l s m h = none-with l (n .inputs) gates (λ j u e. omega (arith, w .lower j s (rw e m), w .inputsMost, w .gatesMost))
 
-  module _ (keys heads next : List ℕ) (x : Indexed N keys heads next) where
-    found-is : (l : List ℕ) → length l ≤ 4 → Low l
-        → gateIn (codeFound (N .inputs) (foundIn keys heads next (keyOf l))) ≡ gateWith l (N .inputs) (N .gates)
-    unfolding gateIn codeFound
+  module _ (keys heads next : List ℕ) (x : Indexed n keys heads next) where
+    found-is : (l : List ℕ) → length l ≤ 4 → Low l → gateIn (codeFound (n .inputs) (foundIn keys heads next (keyOf l))) ≡ gateWith l (n .inputs) gates
+    unfolding gateIn codeFound foundGate netlistIn
     found-is l few low = go (foundIn keys heads next (keyOf l)) refl
       where
-        sought : foundIn keys heads next (keyOf l) ≡ seek keys (keyOf l) (length (N .gates))
-        sought = rw (x .headsAre, x .nextAre) (found-chained keys (length (N .gates)) (w .gatesMost) (keyOf l))
+        found : foundGate (n .inputs) (foundIn keys heads next (keyOf l)) ≡ gateWith l (n .inputs) gates
+        found = rw (x .headsAre, x .nextAre, x .keysAre) (finds n (flat n (lines-of (netlistIn n) w)) (w .single) l few (low-at l low))
 
-        go : (f : Found) → foundIn keys heads next (keyOf l) ≡ f → gateIn (codeFound (N .inputs) f) ≡ gateWith l (N .inputs) (N .gates)
+        go : (f : Found) → foundIn keys heads next (keyOf l) ≡ f → gateIn (codeFound (n .inputs) f) ≡ gateWith l (n .inputs) gates
         go (At g) e =
-            let p = seek-at keys (keyOf l) (length (N .gates)) g (sym sought ∙ e) in
-            let k : keyOf (getD (N .gates) g []) ≡ keyOf l = sym (x .keysAre g (p .0)) ∙ p .1 in
-            let s : getD (N .gates) g [] ≡ l = key-same (getD (N .gates) g []) l k (w .few g) few (low-at (getD (N .gates) g []) (gate-low g (p .0))) (low-at l low) in
-            let c : N .inputs + g + 2 ≡ codeFound (N .inputs) (At g) = code-at (N .inputs) (At g) g refl (w .inputsMost) (omega (arith, p .0, w .gatesMost)) in
-            rw (← c, add-two (N .inputs + g)) (sym (some-with l (N .inputs) (N .gates) g (p .0) s (λ i u f. apart (N .gates) i g (w .single) u (p .0) (f ∙ sym s))))
-        go Nothing e = sym (none-with l (N .inputs) (N .gates) (λ j u f. seek-none keys (keyOf l) (length (N .gates)) j (sym sought ∙ e) u (x .keysAre j u ∙ ap keyOf f)))
+            let z : some (n .inputs + g) ≡ gateWith l (n .inputs) gates = rw e at found in
+            let p = gateWith-spec l (n .inputs) gates (n .inputs + g) (sym z) in
+            let c : n .inputs + g + 2 ≡ codeFound (n .inputs) (At g) = code-at (n .inputs) (At g) g refl (w .inputsMost) (omega (arith, p .1, p .2, w .gatesMost)) in
+            rw (← c, add-two (n .inputs + g)) z
+        go Nothing e = rw e at found
 
     module _ (book : List Cell) where
-      gate-over : (os : List ℕ) → length os ≤ 4 → gateIn (gateOver (N .inputs) keys heads next (signals (map lowCell book) os)) ≡ gateOn N (signals book os)
-      unfolding gateOver gateOn gateIn
+      gate-over : (os : List ℕ) → length os ≤ 4 → gateIn (gateOver (n .inputs) keys heads next (signals (map lowCell book) os)) ≡ gateOn (netlistIn n) (signals book os)
+      unfolding gateOver gateOn gateIn netlistIn
       gate-over os few = go (signals (map lowCell book) os) refl
         where
-          past : (o : Option (List ℕ)) → signals book os ≡ o → signals (map lowCell book) os ≡ none → none ≡ gateOn N o
+          past : (o : Option (List ℕ)) → signals book os ≡ o → signals (map lowCell book) os ≡ none → none ≡ gateOn (netlistIn n) o
           past none q e = refl
           past (some ss) q e = let y = past-one book os ss e q in sym (none-past (sort ss) (y .0) (mem-sort (y .0) ss ∙ y .1) (y .2))
 
-          go : (o : Option (List ℕ)) → signals (map lowCell book) os ≡ o → gateIn (gateOver (N .inputs) keys heads next o) ≡ gateOn N (signals book os)
+          go : (o : Option (List ℕ)) → signals (map lowCell book) os ≡ o → gateIn (gateOver (n .inputs) keys heads next o) ≡ gateOn (netlistIn n) (signals book os)
           go none e = past (signals book os) refl e
           go (some ss) e =
               let y = low-same book os ss e in
@@ -135,19 +139,19 @@ module _ (N : Netlist) (w : Well N) where
               rw (y .0) (found-is (sort ss) n (λ o m. y .1 o (sym (mem-sort o ss) ∙ m)))
 
       -- none of too few operands, or of too many
-      gate-empty : none ≡ gateOn N (signals book [])
-      unfolding gateOn signals sort
+      gate-empty : none ≡ gateOn (netlistIn n) (signals book [])
+      unfolding gateOn signals sort netlistIn
       gate-empty = sym none-empty
 
-      gate-long : (os : List ℕ) → 4 < length os → none ≡ gateOn N (signals book os)
-      unfolding gateOn
+      gate-long : (os : List ℕ) → 4 < length os → none ≡ gateOn (netlistIn n) (signals book os)
+      unfolding gateOn netlistIn
       gate-long os h = go (signals book os) refl
         where
-          go : (o : Option (List ℕ)) → signals book os ≡ o → none ≡ gateOn N o
+          go : (o : Option (List ℕ)) → signals book os ≡ o → none ≡ gateOn (netlistIn n) o
           go none e = refl
           go (some ss) e = sym (none-long (sort ss) (omega (arith, sort-long ss, signals-long book os ss e)))
 
-      pub gate-is : (text : List ℕ) (i : Instruction) → gateIn (gateMade (N .inputs) keys heads next book text i) ≡ gateFor N (instructionIn text i) book
+      pub gate-is : (text : List ℕ) (i : Instruction) → gateIn (gateMade (n .inputs) keys heads next book text i) ≡ gateFor (netlistIn n) (instructionIn text i) book
       unfolding gateMade gateFor instructionIn gateIn pick bytesFrom
       gate-is text i = go (i .set) refl (decLt (i .cells) 2) (decLt 5 (i .cells))
         where
@@ -155,7 +159,7 @@ module _ (N : Netlist) (w : Well N) where
           os = bytesFrom text (i .first + 2) (i .cells - 1)
 
           go : (t : Bool) → i .set ≡ t → Dec (i .cells < 2) → Dec (5 < i .cells)
-              → gateIn (gateMade (N .inputs) keys heads next book text i) ≡ gateFor N (instructionIn text i) book
+              → gateIn (gateMade (n .inputs) keys heads next book text i) ≡ gateFor (netlistIn n) (instructionIn text i) book
           go true e d f = rw e
           go false e (yes d) f = let z : i .cells - 1 ≡ 0 = omega arith in rw (e, lt-ltb (i .cells) 2 d, z) gate-empty
           go false e (no d) (yes f) = rw (e, le-ltb (i .cells) 2 (omega arith), lt-ltb 5 (i .cells) f) (gate-long os (omega (arith, length-bytes text (i .first + 2) (i .cells - 1))))

@@ -6,3 +6,4 @@ pub mod Matching
 pub mod Finding
 pub mod Gating
 pub mod Working
+pub mod Answering

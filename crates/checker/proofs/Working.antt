@@ -9,11 +9,12 @@ use lib.ListN.{length}
 use borrow.Author.Tests.{eq-eqb, ne-eqb}
 use Rattle.rules.specs.Basics.{pick}
 use Rattle.rules.specs.Refusals.{Res, good, refused, _>>=_}
-use Rattle.rules.specs.Netlist.{Netlist}
 use Rattle.rules.specs.Book.{Cell, step, steps}
 use Rattle.row.specs.declared.Instruction.{Instruction}
 use Rattle.row.specs.Decoded.{instructionAt, instructionIn, eachLine, instructionsAt}
 use Rattle.row.proofs.Decoding.{cells-inside}
+use Rattle.netlist.specs.declared.Netlist.{Netlist}
+use Rattle.netlist.specs.Flat.{netlistIn}
 use Rattle.netlist.specs.Well.{Well}
 use Rattle.book.specs.declared.Book.{Book}
 use Rattle.book.specs.declared.Outcome.{Outcome}
@@ -67,11 +68,11 @@ outcome-inputs b (good book) = refl
 outcome-inputs b (refused r) = refl
 
 -- what an outcome says, by its number
-passed : (o : Outcome) → eqb (o .refusal .number) 0 ≡ true → steppedIn o ≡ good (bookIn (o .book))
+pub passed : (o : Outcome) → eqb (o .refusal .number) 0 ≡ true → steppedIn o ≡ good (bookIn (o .book))
 unfolding steppedIn pick
 passed o e = rw e
 
-stopped : (o : Outcome) → eqb (o .refusal .number) 0 ≡ false → steppedIn o ≡ refused (o .refusal)
+pub stopped : (o : Outcome) → eqb (o .refusal .number) 0 ≡ false → steppedIn o ≡ refused (o .refusal)
 unfolding steppedIn pick
 stopped o e = rw e
 
@@ -92,30 +93,30 @@ onward-means o f told after s r = go (eqb (o .refusal .number) 0) refl
     go true e = rw (goes-on o f e, ← s, passed o e) r
     go false e = rw (ends o f e, ← s, stopped o e)
 
-module _ (N : Netlist) (w : Well N) (keys heads next : List ℕ) (x : Indexed N keys heads next) (text : List ℕ) where
+module _ (n : Netlist) (w : Well (netlistIn n)) (keys heads next : List ℕ) (x : Indexed n keys heads next) (text : List ℕ) where
   step-inputs : (at : ℕ) (b : Book) → stepAt keys heads next text at b .book .inputs ≡ b .inputs
   unfolding stepAt steppedOf
   step-inputs at b =
       let i = instructionAt text at in
       outcome-inputs b (stepWith (b .inputs) (gateIn (gateMade (b .inputs) keys heads next (bookIn b) text i)) (instructionIn text (standingIn text i)) (bookIn b))
 
-  step-means : (at : ℕ) (b : Book) → b .inputs ≡ N .inputs
-      → steppedIn (stepAt keys heads next text at b) ≡ step N (instructionIn text (instructionAt text at)) (bookIn b)
-  unfolding stepAt
-  step-means at b n =
+  step-means : (at : ℕ) (b : Book) → b .inputs ≡ n .inputs
+      → steppedIn (stepAt keys heads next text at b) ≡ step (netlistIn n) (instructionIn text (instructionAt text at)) (bookIn b)
+  unfolding stepAt netlistIn
+  step-means at b m =
       let i = instructionAt text at in
       let gate = gateMade (b .inputs) keys heads next (bookIn b) text i in
-      let g : gateIn gate ≡ gateFor N (instructionIn text i) (bookIn b) =
-      ap (λ m. gateIn (gateMade m keys heads next (bookIn b) text i)) n ∙ gate-is N w keys heads next x (bookIn b) text i in
+      let g : gateIn gate ≡ gateFor (netlistIn n) (instructionIn text i) (bookIn b) =
+      ap (λ k. gateIn (gateMade k keys heads next (bookIn b) text i)) m ∙ gate-is n w keys heads next x (bookIn b) text i in
       let e = standing-all text at in
-      stepped-means N b text i gate n (rw e g) ∙ ap (λ j. step N (instructionIn text j) (bookIn b)) e
+      stepped-means (netlistIn n) b text i gate m (rw e g) ∙ ap (λ j. step (netlistIn n) (instructionIn text j) (bookIn b)) e
 
-  pub worked-means : (k at : ℕ) (b : Book) → b .inputs ≡ N .inputs
-      → steppedIn (workedOf keys heads next text k at b) ≡ steps N (instructionsAt text at k) (bookIn b)
+  pub worked-means : (k at : ℕ) (b : Book) → b .inputs ≡ n .inputs
+      → steppedIn (workedOf keys heads next text k at b) ≡ steps (netlistIn n) (instructionsAt text at k) (bookIn b)
   unfolding workedOf steps instructionsAt eachLine
-  worked-means zero at b n = passed (record { refusal = record { number = 0 }; book = b }) refl
-  worked-means (suc k) at b n =
+  worked-means zero at b m = passed (record { refusal = record { number = 0 }; book = b }) refl
+  worked-means (suc k) at b m =
       let o = stepAt keys heads next text at b in
       let at′ = instructionAt text at .next in
-      onward-means o (workedOf keys heads next text k at′) (step N (instructionIn text (instructionAt text at)) (bookIn b)) (steps N (instructionsAt text at′ k))
-      (step-means at b n) (worked-means k at′ (o .book) (step-inputs at b ∙ n))
+      onward-means o (workedOf keys heads next text k at′) (step (netlistIn n) (instructionIn text (instructionAt text at)) (bookIn b)) (steps (netlistIn n) (instructionsAt text at′ k))
+      (step-means at b m) (worked-means k at′ (o .book) (step-inputs at b ∙ m))

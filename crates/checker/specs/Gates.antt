@@ -1,17 +1,17 @@
 -- The gate that an instruction makes, found by the key of its operand signals.
 -- Assumes nothing.
-use Prim.Native.Nat.{ℕ, _+_, _-_, _<_}
+use Prim.Native.Nat.{ℕ, _+_, _-_, min}
 use mathlib.Core.Path.{_≡_}
 use mathlib.Core.Bool.{Bool}
-use mathlib.Core.List.{List, [], map}
+use mathlib.Core.List.{List, map}
 use mathlib.Core.Option.{Option, none, some}
 use lib.Dec.{ltb, leb}
-use lib.ListN.{getD, length}
 use Rattle.rules.specs.Basics.{pick, sort}
-use Rattle.rules.specs.Netlist.{Netlist}
 use Rattle.rules.specs.Book.{Cell, signals}
 use Rattle.lines.specs.Line.{bytesFrom}
 use Rattle.row.specs.declared.Instruction.{Instruction}
+use Rattle.netlist.specs.declared.Netlist.{Netlist}
+use Rattle.netlist.specs.Keys.{keysIn}
 use Rattle.index.specs.declared.Found.{Found}
 use Rattle.index.specs.declared.Found.the-variants.{At, Nothing}
 use Rattle.index.specs.Chains.{keyOf, chained, foundIn}
@@ -36,7 +36,7 @@ module _ (inputs : ℕ) (keys heads next : List ℕ) where
       (gateOver (signals (map lowCell book) (bytesFrom text (i .first + 2) (i .cells - 1))))))
 
 -- the keys of a netlist's gates, and their chains
-pub record Indexed (N : Netlist) (keys heads next : List ℕ) : Type 0 where
-  pub keysAre : (g : ℕ) → g < length (N .gates) → getD keys g 0 ≡ keyOf (getD (N .gates) g [])
-  pub headsAre : heads ≡ chained keys (length (N .gates)) .heads
-  pub nextAre : next ≡ chained keys (length (N .gates)) .next
+pub record Indexed (n : Netlist) (keys heads next : List ℕ) : Type 0 where
+  pub keysAre : keys ≡ keysIn n
+  pub headsAre : heads ≡ chained keys (min (n .gates) 512) .heads
+  pub nextAre : next ≡ chained keys (min (n .gates) 512) .next

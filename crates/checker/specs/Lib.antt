@@ -2,3 +2,4 @@ pub mod Places
 pub mod Operands
 pub mod Gates
 pub mod Works
+pub mod Judged
