@@ -7,3 +7,4 @@ pub mod Finding
 pub mod Gating
 pub mod Working
 pub mod Answering
+pub mod Calling

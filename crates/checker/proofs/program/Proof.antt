@@ -1,3 +1,4 @@
+use Rattle.checker.proofs.Calling.{prints-long, cycles-fit, prints-cycles, prints-refusal}
 use borrow.Author.Needs.{needs}
 use Rattle.checker.proofs.program.Statement.{statement}
 use Rattle.checker.proofs.program.Tie as tie
@@ -17,7 +18,7 @@ same-length c = search needs
 
 -- src/lib.rt:52:9
 returns : tie.Need-returns
-returns c = ?
+returns c = prints-long _ _ _ (c .before .before .before .before .if1 .taken) (c .before .before .refusal .ensures)
 
 -- src/lib.rt:54:9
 check-after-requires : tie.Need-check-after-requires
@@ -29,7 +30,7 @@ enum-known-a c = search needs
 
 -- src/lib.rt:57:13
 cycles-requires : tie.Need-cycles-requires
-cycles-requires c κs = ?
+cycles-requires c κs = cycles-fit _ _ _ (c .before .before .before .before .check-after .ensures) (c .before .before .a .given .1)
 
 -- src/lib.rt:60:25
 enum-known-a-2 : tie.Need-enum-known-a-2
@@ -45,7 +46,7 @@ same-length-2 c = search needs
 
 -- src/lib.rt:47:1
 returns-2 : tie.Need-returns-2
-returns-2 c = ?
+returns-2 c = prints-cycles _ _ _ (c .before .before .before .before .before .before .before .before .if1 .left) _ (c .before .before .before .before .before .before .before .check-after .ensures) _ (c .before .before .before .before .before .a .given .1) (c .before .before .cycles .ensures)
 
 -- src/lib.rt:47:1
 same-length-3 : tie.Need-same-length-3
@@ -53,7 +54,7 @@ same-length-3 c = search needs
 
 -- src/lib.rt:47:1
 returns-3 : tie.Need-returns-3
-returns-3 c = ?
+returns-3 c = prints-refusal _ _ _ (c .before .before .before .before .before .before .before .before .if1 .left) _ (c .before .before .before .before .before .before .before .check-after .ensures) _ (c .before .before .before .before .before .a2 .given .1) (c .before .before .refusal2 .ensures)
 
 pub program-spec : {M : Type 1} → statement M
 program-spec =
