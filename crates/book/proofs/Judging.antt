@@ -12,8 +12,8 @@ use Rattle.rules.specs.Refusals.{Res, good, refused, refuse, _>>=_, orRefuse}
 use Rattle.rules.specs.Book.{Cell, unknown, ready, holds}
 use Rattle.rules.proofs.Laws.{no-way}
 use Rattle.lines.specs.Line.{byteAt, bytesFrom}
-use Rattle.row.specs.declared.Instruction.{Instruction}
-use Rattle.row.specs.Decoded.{instructionIn}
+use Rattle.instruction.specs.declared.Instruction.{Instruction}
+use Rattle.instruction.specs.Line.{instructionIn}
 use Rattle.book.specs.declared.Book.{Book}
 use Rattle.book.specs.declared.Outcome.{Outcome}
 use Rattle.book.specs.Cells.{cellOf, said, kept, bookIn, bookOf}

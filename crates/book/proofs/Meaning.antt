@@ -17,9 +17,9 @@ use Rattle.rules.specs.Sequence as rules
 use Rattle.rules.specs.Sequence.{Set, Nor}
 use Rattle.rules.specs.Book.{Cell, unknown, ready, holds, firstBook, signals, made, step}
 use Rattle.rules.proofs.Laws.{no-way, by-pick}
-use Rattle.row.specs.declared.Instruction.{Instruction}
-use Rattle.row.specs.Decoded.{instructionAt, instructionIn}
-use Rattle.row.proofs.Decoding.{cells-inside}
+use Rattle.instruction.specs.declared.Instruction.{Instruction}
+use Rattle.instruction.specs.Line.{instructionAt, instructionIn}
+use Rattle.instruction.proofs.Standing.{cells-inside}
 use Rattle.book.specs.declared.Book.{Book}
 use Rattle.book.specs.declared.Outcome.{Outcome}
 use Rattle.book.specs.Cells.{cellOf, codeOf, said, kept, bookIn, bookOf, blankCells, firstOf}

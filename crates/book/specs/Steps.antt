@@ -13,8 +13,8 @@ use Rattle.rules.specs.Sequence as rules
 use Rattle.rules.specs.Sequence.{Set, Nor}
 use Rattle.rules.specs.Netlist.{Netlist}
 use Rattle.rules.specs.Book.{Cell, unknown, ready, holds, signals, gateOn}
-use Rattle.row.specs.declared.Instruction.{Instruction}
-use Rattle.row.specs.Decoded.{instructionIn}
+use Rattle.instruction.specs.declared.Instruction.{Instruction}
+use Rattle.instruction.specs.Line.{instructionIn}
 use Rattle.book.specs.declared.Book.{Book}
 use Rattle.book.specs.declared.Outcome.{Outcome}
 use Rattle.book.specs.Cells.{bookIn, bookOf}

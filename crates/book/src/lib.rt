@@ -8,7 +8,7 @@ ghost use Rattle.rules.specs.Book.{ready};
 ghost use Rattle.lines.specs.Line.{byteAt, bytesFrom};
 ghost use Rattle.book.specs.Cells.{cellOf, said, kept, blankCells, firstOf};
 ghost use Rattle.book.specs.Steps.{norVerdict, steppedOf};
-use row::Instruction;
+use instruction::Instruction;
 use rules::Refusal;
 
 // What is known of the cells of a row whose first cells hold the inputs: 0 unknown, 1 ready, s + 2 where the cell holds signal s.

@@ -16,8 +16,10 @@ use Rattle.rules.specs.Sequence.{Sequence, sequenceOf}
 use Rattle.rules.specs.Book.{Cell, firstBook, steps, placed, checked}
 use Rattle.row.specs.declared.Head.{Head}
 use Rattle.row.specs.declared.Reading.{Reading}
-use Rattle.row.specs.Decoded.{eachLine, instructionsAt, placesAt, sequenceIn, refusalIn}
-use Rattle.row.proofs.Outcomes.{length-lines}
+use Rattle.row.specs.Decoded.{instructionsAt, placesAt, sequenceIn, refusalIn}
+use Rattle.row.proofs.Listing.{instructions-count}
+use Rattle.instruction.specs.Line as line
+use Rattle.instruction.proofs.Standing.{same-instructions}
 use Rattle.netlist.specs.declared.Netlist.{Netlist}
 use Rattle.netlist.specs.Flat.{from, netlistIn}
 use Rattle.netlist.specs.Well.{Well}
@@ -38,10 +40,6 @@ use Rattle.checker.specs.Judged.{sequenceAt, Agreed, judgedOf}
 use Rattle.checker.proofs.Heads.{sequence-fits}
 use Rattle.checker.proofs.Working.{passed, stopped, worked-means}
 
-code-long : (text : List ℕ) (at k : ℕ) → length (instructionsAt text at k) ≡ k
-unfolding instructionsAt
-code-long text at k = length-lines _ _ k at
-
 -- ---- where the heads agree
 
 module _ (n : Netlist) (text : List ℕ) (h : Head) (a : Agreed n text h) where
@@ -58,7 +56,10 @@ module _ (n : Netlist) (text : List ℕ) (h : Head) (a : Agreed n text h) where
         let m = worked-means n (a .well) keys (ch .heads) (ch .next) x text (h .instructions) (h .code) b (ap (λ k. k .inputs) begun) in
         let f : bookIn b ≡ firstBook (n .inputs) (h .row) =
         ap bookIn begun ∙ first-means (h .row) (n .inputs) (omega (arith, a .inputsAgree, a .inputsFew)) (a .rowMost) in
-        ap steppedIn worked ∙ m ∙ ap (steps (netlistIn n) (instructionsAt text (h .code) (h .instructions))) f
+        ap steppedIn worked
+        ∙ m
+        ∙ ap (steps (netlistIn n) (line.instructionsAt text (h .code) (h .instructions))) f
+        ∙ ap (λ l. steps (netlistIn n) l (firstBook (n .inputs) (h .row))) (same-instructions text (h .instructions) (h .code))
 
     -- what is asked after the instructions
     placing : List Cell → Res ℕ
@@ -70,7 +71,7 @@ module _ (n : Netlist) (text : List ℕ) (h : Head) (a : Agreed n text h) where
         let l = length-from (n .outs) 0 (n .outputs) in
         let i : eqb (h .inputs) (n .inputs) ≡ true = eq-eqb (h .inputs) (n .inputs) (a .inputsAgree) in
         let u : eqb (h .outputs) (length (from (n .outs) 0 (n .outputs))) ≡ true = eq-eqb (h .outputs) (length (from (n .outs) 0 (n .outputs))) (a .outputsAgree ∙ sym l) in
-        rw (i, u, code-long text (h .code) (h .instructions), ← steps-are)
+        rw (i, u, instructions-count text (h .code) (h .instructions), ← steps-are)
 
     pub follow-refused : (o .refusal .number ≡ 0 → ⊥) → refused (o .refusal) ≡ checked (netlistIn n) (sequenceAt text h)
     unfolding _>>=_

@@ -15,8 +15,8 @@ use Rattle.rules.specs.Sequence.{Set, Nor}
 use Rattle.rules.specs.Book.{Cell, unknown, ready, holds, ifHolds, signals, gateWith, gateOn}
 use Rattle.rules.proofs.Laws.{no-way, cons-cases, cons-more, cons-self, mem-nil, gateWith-spec}
 use Rattle.lines.specs.Line.{byteAt, bytesFrom}
-use Rattle.row.specs.declared.Instruction.{Instruction}
-use Rattle.row.specs.Decoded.{instructionIn}
+use Rattle.instruction.specs.declared.Instruction.{Instruction}
+use Rattle.instruction.specs.Line.{instructionIn}
 use Rattle.row.proofs.Judging.{length-bytes}
 use Rattle.netlist.specs.declared.Netlist.{Netlist}
 use Rattle.netlist.specs.Flat.{gatesIn, netlistIn}

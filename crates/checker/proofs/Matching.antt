@@ -12,7 +12,7 @@ use Rattle.rules.specs.Basics.{pick, sort}
 use Rattle.rules.specs.Book.{Cell, unknown, ready, holds, ifHolds, signals}
 use Rattle.rules.proofs.Laws.{no-way}
 use Rattle.lines.specs.Line.{bytesFrom}
-use Rattle.row.specs.declared.Instruction.{Instruction}
+use Rattle.instruction.specs.declared.Instruction.{Instruction}
 use Rattle.row.proofs.Judging.{length-bytes}
 use Rattle.index.specs.declared.Found.{Found}
 use Rattle.index.specs.declared.Found.the-variants.{At, Nothing}

@@ -10,9 +10,10 @@ use borrow.Author.Tests.{eq-eqb, ne-eqb}
 use Rattle.rules.specs.Basics.{pick}
 use Rattle.rules.specs.Refusals.{Res, good, refused, _>>=_}
 use Rattle.rules.specs.Book.{Cell, step, steps}
-use Rattle.row.specs.declared.Instruction.{Instruction}
-use Rattle.row.specs.Decoded.{instructionAt, instructionIn, eachLine, instructionsAt}
-use Rattle.row.proofs.Decoding.{cells-inside}
+use Rattle.instruction.specs.declared.Instruction.{Instruction}
+use Rattle.row.specs.Decoded.{eachLine}
+use Rattle.instruction.specs.Line.{instructionAt, instructionIn, instructionsAt}
+use Rattle.instruction.proofs.Standing.{cells-inside}
 use Rattle.netlist.specs.declared.Netlist.{Netlist}
 use Rattle.netlist.specs.Flat.{netlistIn}
 use Rattle.netlist.specs.Well.{Well}

@@ -9,7 +9,7 @@ use lib.Dec.{ltb, leb}
 use Rattle.rules.specs.Basics.{pick, sort}
 use Rattle.rules.specs.Book.{Cell, signals}
 use Rattle.lines.specs.Line.{bytesFrom}
-use Rattle.row.specs.declared.Instruction.{Instruction}
+use Rattle.instruction.specs.declared.Instruction.{Instruction}
 use Rattle.netlist.specs.declared.Netlist.{Netlist}
 use Rattle.netlist.specs.Keys.{keysIn}
 use Rattle.index.specs.declared.Found.{Found}

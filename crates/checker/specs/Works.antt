@@ -4,7 +4,7 @@ use Prim.Native.Nat.{ℕ, zero, suc}
 use mathlib.Core.List.{List}
 use lib.Dec.{eqb}
 use Rattle.rules.specs.Basics.{pick}
-use Rattle.row.specs.Decoded.{instructionAt}
+use Rattle.instruction.specs.Line.{instructionAt}
 use Rattle.book.specs.declared.Book.{Book}
 use Rattle.book.specs.declared.Outcome.{Outcome}
 use Rattle.book.specs.Cells.{bookIn}

@@ -6,7 +6,7 @@ ghost use Rattle.book.specs.Cells.{said};
 ghost use Rattle.checker.specs.Gates.{codeFound, gateMade};
 use crate::operands;
 use index::Found;
-use row::Instruction;
+use instruction::Instruction;
 
 // The gate at a place as the book has it: its signal and 2 more; 0 for none.
 fn code(f: Found, inputs: usize) -> u16

@@ -22,7 +22,7 @@ pub(crate) fn worked(
     let mut at = code;
     let mut done = 0;
     while done < count {
-        let i = row::instruction_at(text, at);
+        let i = instruction::instruction_at(text, at);
         let row = b.row;
         let inputs = b.inputs;
         let gate = gates::gate_for(&b.cells, row, text, i, keys, heads, next, inputs);

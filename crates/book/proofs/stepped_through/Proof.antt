@@ -46,9 +46,9 @@ use denote.Exit.{yes}
 use Rattle.book.specs.Steps.{steppedOf}
 use Rattle.book.specs.declared.Book.{Book}
 use Rattle.book.specs.declared.Outcome.{Outcome}
-use Rattle.row.specs.declared.Instruction.{Instruction}
-use Rattle.row.proofs.Instruction as I
-use Rattle.row.proofs.Instruction.Laws as I′
+use Rattle.instruction.specs.declared.Instruction.{Instruction}
+use Rattle.instruction.proofs.Instruction as I
+use Rattle.instruction.proofs.Instruction.Laws as I′
 use Rattle.rules.specs.declared.Refusal.{Refusal}
 use Rattle.rules.proofs.Refusal as R
 use Rattle.rules.proofs.Refusal.Laws as R′

@@ -8,7 +8,7 @@ use Rattle.checker.proofs.work.worked.Reads as reads
 use Rattle.checker.proofs.work.worked.Lts as lts
 use Rattle.book.proofs.stepped_through.Reads as stepped-through-reads
 use Rattle.checker.proofs.gates.gate_for.Reads as gate-for-reads
-use Rattle.row.proofs.instruction_at.Reads as instruction-at-reads
+use Rattle.instruction.proofs.instruction_at.Reads as instruction-at-reads
 
 abbrev Inv-loop : tie.InvT-loop
 Inv-loop text code count keys heads next b₀ at₀ done₀ b at done = Worked keys heads next text code count b₀ b at done
