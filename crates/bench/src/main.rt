@@ -1,7 +1,10 @@
 // The bench sheet's run cases: each prints one line, held to the file stdout.
+mod reading;
 mod rows;
 mod say;
 
 fn main() {
+    reading::chains();
+    reading::run();
     rows::run();
 }

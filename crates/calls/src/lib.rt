@@ -4,7 +4,7 @@ ghost use mathlib.Core.Path.{_≡_};
 ghost use Prim.Native.Nat.{_-_, _%_, _^_};
 ghost use lib.ListN.{length};
 ghost use Rattle.rules.specs.Refusals.{meaning};
-ghost use Rattle.rules.specs.Calls.{evaluateOutcome, simulateOutcome, tailOutcome, frameOutcome, placeOutcome};
+ghost use Rattle.rules.specs.Calls.{evaluateOutcome, checkOutcome, simulateOutcome, tailOutcome, frameOutcome, placeOutcome};
 ghost use Rattle.calls.specs.Coded.{coded, readAnswer};
 use rules::Answer;
 
@@ -36,6 +36,14 @@ pub extern "C" fn bhedhmurali_read(text: &[u8]) -> u64
     let r = netlist::read(text);
     let n = r.refusal.number;
     minus(n)
+}
+
+// check: a sequence against a netlist. The answer is the number of instructions where it passes.
+#[no_mangle]
+pub extern "C" fn bhedhmurali_check(netlist: &[u8], sequence: &[u8]) -> u64
+    ensures { λ r. ⌜ r ≡ coded (checkOutcome (now (netlist .entry)) (now (sequence .entry))) ⌝ }
+{
+    code(checker::check(netlist, sequence))
 }
 
 // evaluate: a netlist's outputs for its inputs. The answer is their number.
