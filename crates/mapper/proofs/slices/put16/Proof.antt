@@ -1,0 +1,31 @@
+use native.Mathlib.Omega.{arith}
+use mathlib.Core.Path.{sym}
+use lib.Seq.{set-out}
+use borrow.Author.Needs.{needs}
+use Rattle.mapper.proofs.slices.put16.Statement.{statement}
+use Rattle.mapper.proofs.slices.put16.Tie as tie
+use Rattle.mapper.proofs.slices.put16.Reads as reads
+use Rattle.mapper.proofs.slices.put16.Lts as lts
+
+-- src/slices.rt:27:9
+mul-s : tie.Need-mul-s
+mul-s c = search needs
+
+-- src/slices.rt:27:9
+slice-write-s : tie.Need-slice-write-s
+slice-write-s c = search needs
+
+-- src/slices.rt:23:1
+same-length : tie.Need-same-length
+same-length c = search needs
+
+-- src/slices.rt:23:1
+returns : tie.Need-returns
+returns c = search needs
+
+-- src/slices.rt:23:1
+returns-2 : tie.Need-returns-2
+returns-2 c = sym (set-out _ _ _ (omega arith))
+
+pub put16-spec : {M : Type 1} → statement M
+put16-spec = tie.close (tie.spec mul-s slice-write-s same-length returns returns-2)
