@@ -1,3 +1,5 @@
 pub mod Lists
 pub mod Sorting
 pub mod Weighing
+pub mod Marks
+pub mod Walking

@@ -2,3 +2,4 @@
 
 mod slices;
 mod weights;
+mod order;
