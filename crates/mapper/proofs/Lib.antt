@@ -3,3 +3,5 @@ pub mod Sorting
 pub mod Weighing
 pub mod Marks
 pub mod Walking
+pub mod Counting
+pub mod Readership

@@ -9,7 +9,7 @@ use mathlib.Core.List.{List, [], _∷_, _++_}
 use lib.ListN.{getD, length, take, drop, set, length-append, length-set, List·getD-append, List·getD-eq-default}
 use lib.Seq.{sets, length-sets, getD-set-same, getD-set-other, getD-at, take-append-le, take-all}
 use Rattle.rules.specs.Basics.{mem}
-use Rattle.rules.proofs.Laws.{mem-nil, cons-cases}
+use Rattle.rules.proofs.Laws.{mem-nil, cons-cases, cons-self, cons-more}
 use Rattle.netlist.specs.Flat.{from, gateIn, gatesIn}
 
 -- ---- numbers from a place on
@@ -45,6 +45,15 @@ from-mem l at (suc n) o e =
     cons-cases ((k : ℕ) × (k < suc n) × (o ≡ getD l (at + k) 0)) o (getD l at 0) (from l (at + 1) n) e
     (λ h. let p : at + 0 ≡ at = omega arith in (0, omega arith, (rw p h)))
     (λ h. let r = from-mem l (at + 1) n o h in let p : at + 1 + r .0 ≡ at + suc (r .0) = omega arith in (suc (r .0), omega (arith, r .1), (rw p at (r .2))))
+
+-- an entry is one of them
+pub operand-of : (l : List ℕ) (at k j : ℕ) → j < k → mem (getD l (at + j) 0) (from l at k) ≡ true
+unfolding from
+operand-of l at zero j h = absurd (omega arith)
+operand-of l at (suc k) zero h = let e : at + 0 ≡ at = omega arith in rw e (cons-self (getD l at 0) (from l (at + 1) k))
+operand-of l at (suc k) (suc j) h =
+    let e : at + suc j ≡ at + 1 + j = omega arith in
+    rw e (cons-more (getD l (at + 1 + j) 0) (getD l at 0) (from l (at + 1) k) (operand-of l (at + 1) k j (omega arith)))
 
 -- ---- lists set from a place on
 

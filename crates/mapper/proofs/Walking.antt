@@ -13,6 +13,7 @@ use Rattle.rules.proofs.Laws.{cons-self, cons-more}
 use Rattle.netlist.specs.Flat.{from}
 use Rattle.mapper.specs.Sort.{opsIn}
 use Rattle.mapper.specs.Visit.{Tied, Lower, Appended, Visited, unread, orderFrom, Rooted, Opened, Ordered}
+use Rattle.mapper.proofs.Lists.{operand-of}
 use Rattle.mapper.proofs.Marks.{mem-other, tied-fits}
 
 -- ---- the rule's visit by depth: a depth over the signal's number is enough, and nothing above the signal is executed
@@ -64,15 +65,6 @@ walking-start vis cnt done seq n s t e =
     let p : 4 * s + 0 ≡ 4 * s = omega arith in
     let q : getD cnt s 0 - 0 ≡ getD cnt s 0 = omega arith in
     record { inside = omega arith; tied = t; same = refl; fresh = e; left = rw (p, q) }
-
--- the operand at place j is one
-operand-of : (vis : List ℕ) (at k j : ℕ) → j < k → mem (getD vis (at + j) 0) (from vis at k) ≡ true
-unfolding from
-operand-of vis at zero j h = absurd (omega arith)
-operand-of vis at (suc k) zero h = let e : at + 0 ≡ at = omega arith in rw e (cons-self (getD vis at 0) (from vis (at + 1) k))
-operand-of vis at (suc k) (suc j) h =
-    let e : at + suc j ≡ at + 1 + j = omega arith in
-    rw e (cons-more (getD vis (at + 1 + j) 0) (getD vis at 0) (from vis (at + 1) k) (operand-of vis (at + 1) k j (omega arith)))
 
 pub operand-lower : (vis cnt : List ℕ) (s j : ℕ) → Lower (opsIn vis cnt) → j < getD cnt s 0 → getD vis (4 * s + j) 0 < s
 operand-lower vis cnt s j w h = w .low s (getD vis (4 * s + j) 0) (operand-of vis (4 * s) (getD cnt s 0) j h)

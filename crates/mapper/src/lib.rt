@@ -3,3 +3,4 @@
 mod slices;
 mod weights;
 mod order;
+mod readers;
