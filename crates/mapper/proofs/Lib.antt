@@ -5,3 +5,4 @@ pub mod Marks
 pub mod Walking
 pub mod Counting
 pub mod Readership
+pub mod Orders

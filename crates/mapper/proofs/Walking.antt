@@ -23,7 +23,7 @@ unfolding each
 each-same f h [] e d = refl
 each-same f h (o ∷ os) e d = ap (each f os) (e o (cons-self o os) d) ∙ each-same f h os (λ x m. e x (cons-more x o os m)) (h o d)
 
-each-keeps : (f : ℕ → List ℕ → List ℕ) (s : ℕ) (os : List ℕ) → ((o : ℕ) → mem o os ≡ true → (d : List ℕ) → mem s (f o d) ≡ mem s d) → (d : List ℕ) → mem s (each f os d) ≡ mem s d
+pub each-keeps : (f : ℕ → List ℕ → List ℕ) (s : ℕ) (os : List ℕ) → ((o : ℕ) → mem o os ≡ true → (d : List ℕ) → mem s (f o d) ≡ mem s d) → (d : List ℕ) → mem s (each f os d) ≡ mem s d
 unfolding each
 each-keeps f s [] e d = refl
 each-keeps f s (o ∷ os) e d = each-keeps f s os (λ x m. e x (cons-more x o os m)) (f o d) ∙ e o (cons-self o os) d

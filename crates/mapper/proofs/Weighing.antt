@@ -196,7 +196,7 @@ pub record Weighting (inputs : ℕ) (ops counts wts₀ vis₀ cnt₀ wts vis cnt
   pub done : (j : ℕ) → j < g → opsIn vis cnt (inputs + j) ≡ orderOf inputs ops counts gates (inputs + j)
   pub rest : (s : ℕ) → ((j : ℕ) → j < g → s ≡ inputs + j → ⊥) → getD cnt s 0 ≡ 0
 
-replicate-zero : (n i : ℕ) → _≡_ {A = ℕ} (getD (replicate n 0) i 0) 0
+pub replicate-zero : (n i : ℕ) → _≡_ {A = ℕ} (getD (replicate n 0) i 0) 0
 replicate-zero n i = go (decLt i n)
   where
     go : Dec (i < n) → _≡_ {A = ℕ} (getD (replicate n 0) i 0) 0

@@ -5,7 +5,7 @@ use mathlib.Core.Path.{_≡_}
 use mathlib.Core.Bool.{Bool, true, false}
 use mathlib.Core.List.{List, [], _∷_}
 use lib.Dec.{leb}
-use lib.ListN.{getD, take, drop, length, set}
+use lib.ListN.{getD, take, drop, length, set, replicate}
 use lib.Seq.{sets}
 use Rattle.rules.specs.Basics.{pick}
 use Rattle.rules.specs.Weight.{goesBefore, insertBy, highToLow, gateOperands, weightIn, weigh}
@@ -43,6 +43,10 @@ pub record Sorted (os : List ℕ) (most : ℕ) (r : Four) : Type 0 where
 
 abbrev pub opsIn : List ℕ → List ℕ → ℕ → List ℕ
 opsIn vis cnt s = from vis (4 * s) (getD cnt s 0)
+
+-- so many zeros
+unfoldable pub zeros : ℕ → List ℕ
+zeros n = replicate n 0
 
 -- every entry is 0
 pub record Blank (l : List ℕ) : Type 0 where

@@ -7,7 +7,9 @@ use mathlib.Core.List.{List, [], _∷_, _++_}
 use lib.Dec.{eqb}
 use lib.ListN.{getD, take, length}
 use Rattle.rules.specs.Basics.{pick, mem, keep, each, upto}
-use Rattle.rules.specs.Order.{visit}
+use Rattle.rules.specs.Order.{visit, order}
+use Rattle.netlist.specs.declared.Netlist.{Netlist}
+use Rattle.netlist.specs.Flat.{netlistIn}
 use Rattle.mapper.specs.Sort.{opsIn}
 
 -- how many ones
@@ -67,3 +69,16 @@ pub record Opened (vis cnt done seq : List ℕ) (first end : ℕ) : Type 0 where
 pub record Ordered (ops : ℕ → List ℕ) (left seq : List ℕ) (first end r : ℕ) : Type 0 where
   pub fits : r ≤ length seq
   pub is : take r seq ≡ orderFrom ops left first (end - first) []
+
+-- ---- the whole order
+
+-- gates from first up to end, each once
+pub record Steps (first end : ℕ) (d : List ℕ) : Type 0 where
+  pub once : (i : ℕ) → i < length d → mem (getD d i 0) (take i d) ≡ false
+  pub low : (i : ℕ) → i < length d → first ≤ getD d i 0
+  pub high : (i : ℕ) → i < length d → getD d i 0 < end
+
+-- the first r of a sequence are the rule's order
+pub record InOrder (n : Netlist) (seq : List ℕ) (r : ℕ) : Type 0 where
+  pub fits : r ≤ length seq
+  pub is : take r seq ≡ order (netlistIn n)

@@ -4,11 +4,19 @@ ghost use Prim.Native.Nat.{_≤_, _<_};
 ghost use mathlib.Core.Bool.{false};
 ghost use lib.ListN.{length, take};
 ghost use Rattle.rules.specs.Basics.{mem};
-ghost use Rattle.mapper.specs.Sort.{opsIn};
-ghost use Rattle.mapper.specs.Visit.{Tied, Ready, Appended, Visited, Rooted, Opened, Ordered};
+ghost use Rattle.netlist.specs.Well.{WellFlat};
+ghost use Rattle.mapper.specs.Sort.{opsIn, Blank};
+ghost use Rattle.mapper.specs.Visit.{Tied, Ready, Appended, Visited, Rooted, Opened, Ordered, InOrder};
+ghost use Rattle.mapper.specs.Wanted.{Readers};
+use crate::readers::count_readers;
 use crate::slices::at16;
 use crate::slices::at8;
+use crate::slices::blank16;
+use crate::slices::blank8;
+use crate::slices::blank_fours;
 use crate::slices::put16;
+use crate::weights::weigh_all;
+use netlist::Netlist;
 
 // Signal s executed: marked, and put at place n of the sequence.
 fn append(done: &mut [u8], seq: &mut [u16], n: usize, s: usize) -> usize
@@ -86,4 +94,20 @@ pub(crate) fn order(
         s += 1;
     }
     n
+}
+
+// The gates of a netlist in the order of their execution; the answer is how many they are. left then counts each signal's readers.
+pub(crate) fn in_order(n: Netlist, left: &mut [u16], seq: &mut [u16]) -> usize
+    requires { ⌜ WellFlat n × (Blank (now left) × ((length (now left) ≡ 576) × (length (now seq) ≡ 576))) ⌝ }
+    ensures { λ r. ⌜ InOrder n (now (seq .exit)) r × Readers n (now (left .exit)) ⌝ }
+{
+    count_readers(n, left);
+    let mut wts = blank16();
+    let mut vis = blank_fours();
+    let mut cnt = blank8();
+    weigh_all(n, &mut wts, &mut vis, &mut cnt);
+    let mut done = blank8();
+    let first = n.inputs;
+    let end = n.inputs + n.gates;
+    order(&vis, &cnt, left, &mut done, seq, first, end)
 }
