@@ -6,3 +6,5 @@ pub mod Walking
 pub mod Counting
 pub mod Readership
 pub mod Orders
+pub mod Writing
+pub mod Cellwise
