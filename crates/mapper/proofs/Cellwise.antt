@@ -9,14 +9,14 @@ use mathlib.Core.List.{List, [], _∷_, _++_, map, append-nil}
 use lib.Dec.{eqb, leb}
 use borrow.Author.Count.{below-more}
 use borrow.Author.Tests.{eq-eqb, ne-eqb}
-use lib.ListN.{getD, length, take, drop, set, length-set, drop-of-length-le}
+use lib.ListN.{getD, length, take, drop, set, replicate, length-set, drop-of-length-le}
 use lib.Seq.{sets, take-suc-set, drop-set-lt, drop-cons, append-snoc, take-all, drop-drop, getD-take, length-take-le}
 use Rattle.rules.specs.Basics.{pick, keep, setAll}
 use Rattle.rules.specs.Lines.{written}
 use Rattle.netlist.specs.Flat.{from}
 use Rattle.mapper.specs.declared.cells.Cells.{Cells}
 use Rattle.mapper.specs.Text.{Written, digits, entry}
-use Rattle.mapper.specs.Held.{cellsOf, spentIn, spentDigits, renewed, NoneBelow, Fine, Sought, Renewed, isFree, withHeld}
+use Rattle.mapper.specs.Held.{cellsOf, spentIn, spentDigits, renewed, NoneBelow, Fine, Short, Sought, Renewed, Roomed, atOnce, later, ones, firstHeld, firstCells, isFree, withHeld}
 use Rattle.mapper.proofs.Writing.{Writes, writes-start, writes-part, writes-feed, written-join}
 
 -- ---- the lowest ready cell
@@ -141,7 +141,7 @@ renew-start h = record {
   text = writes-start;
 }
 
-pub renew-turn : {st₀ : Cells} {out₀ : List ℕ} {st : Cells} {out : List ℕ} {p i v r : ℕ} {out′ : List ℕ} → Fine st₀ → Renewing st₀ out₀ st out p i → i < st₀ .row
+pub renew-turn : {st₀ : Cells} {out₀ : List ℕ} {st : Cells} {out : List ℕ} {p i v r : ℕ} {out′ : List ℕ} → Short st₀ → Renewing st₀ out₀ st out p i → i < st₀ .row
     → Written out p (spentDigits (getD (st .held) i 0) i) out′ r → r ≤ p + 2 → v ≡ renewed (getD (st .held) i 0) → Renewing st₀ out₀ (withHeld st (set (st .held) i v)) out′ r (i + 1)
 renew-turn {st₀} {out₀} {st} {out} {p} {i} {v} {r} {out′} f w h d k e =
     let g : length (cellsOf st) ≡ st .row = length-take-le (st .row) (st .held) (omega (arith, w .long, w .row, f .size)) in
@@ -161,7 +161,7 @@ renew-turn {st₀} {out₀} {st} {out} {p} {i} {v} {r} {out′} f w h d k e =
       text = writes-part (rw (c, spent-next, t, ← add-one i) at (w .text)) d;
     }
 
-pub renew-end : {st₀ : Cells} {first out₀ : List ℕ} {st : Cells} {out : List ℕ} {p i : ℕ} {out′ : List ℕ} → Fine st₀ → out₀ ≡ sets first (st₀ .at) (digits 0x12)
+pub renew-end : {st₀ : Cells} {first out₀ : List ℕ} {st : Cells} {out : List ℕ} {p i : ℕ} {out′ : List ℕ} → Short st₀ → out₀ ≡ sets first (st₀ .at) (digits 0x12)
     → Renewing st₀ out₀ st out p i → st₀ .row ≤ i → out′ ≡ set out p 10 → Renewed st₀ first out′ (record { held = st .held; row = st .row; next = 0; at = p + 1; lines = st .lines + 1 })
 unfolding spentIn written
 renew-end {st₀} {first} {out₀} {st} {out} {p} {i} f a w h e =
@@ -175,3 +175,35 @@ renew-end {st₀} {first} {out₀} {st} {out} {p} {i} f a w h e =
       cells = sym (append-nil (cellsOf st)) ∙ (rw (take-all i (cellsOf st) g, n) at (w .cells));
       text = written-join {t = digits 0x12} (record { is = a; end = refl }) (writes-feed (rw (← w .rest, n) at (w .text)) e);
     }
+
+-- ---- a cell for the next gate
+
+pub sought-short : {st t : Cells} → Sought st t → Short st → Short t
+sought-short w f = record { size = omega (arith, w .row, f .size); short = omega (arith, w .at, f .short); few = omega (arith, w .lines, f .few) }
+
+pub renewed-fine : {st u : Cells} {out out′ : List ℕ} → Renewed st out out′ u → Short st → Fine u
+renewed-fine w f = record { size = omega (arith, w .row, f .size); inside = omega (arith, w .next); low = λ i h. absurd (omega (arith, w .next)) }
+
+-- ---- before the first line
+
+seat-next : (i : ℕ) (l : List ℕ) → set (replicate i 2 ++ (1 ∷ l)) i 2 ≡ replicate (i + 1) 2 ++ l
+seat-next zero l = refl
+seat-next (suc i) l = let e : suc i + 1 ≡ suc (i + 1) = omega arith in rw e (ap (λ t. 2 ∷ t) (seat-next i l))
+
+first-next : (i : ℕ) → i < 256 → set (firstHeld i) i 2 ≡ firstHeld (i + 1)
+unfolding firstHeld
+first-next i h = let e : 256 - i ≡ suc (256 - (i + 1)) = omega arith in rw e (seat-next i (replicate (256 - (i + 1)) 1))
+
+pub record Seating (inputs : ℕ) (held : List ℕ) (i : ℕ) : Type 0 where
+  pub inside : i ≤ inputs
+  pub is : held ≡ firstHeld i
+
+pub seating-start : {inputs : ℕ} {held : List ℕ} → held ≡ ones 256 → Seating inputs held 0
+unfolding ones firstHeld
+seating-start e = record { inside = omega arith; is = e }
+
+pub seating-turn : {inputs : ℕ} {held : List ℕ} {i : ℕ} → inputs ≤ 256 → i < inputs → Seating inputs held i → Seating inputs (set held i 2) (i + 1)
+seating-turn {i = i} l h w = record { inside = omega arith; is = rw (w .is) (first-next i (omega arith)) }
+
+pub seating-end : {inputs : ℕ} {held : List ℕ} {i : ℕ} → inputs ≤ i → Seating inputs held i → held ≡ firstHeld inputs
+seating-end {inputs} {held} {i} h w = let e : i ≡ inputs = omega (arith, w .inside) in rw e at (w .is)

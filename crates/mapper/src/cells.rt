@@ -9,7 +9,7 @@ ghost use Rattle.rules.specs.Basics.{pick, keep, setAll};
 ghost use Rattle.rules.specs.Lines.{digitOf};
 ghost use Rattle.netlist.specs.Flat.{from};
 ghost use Rattle.mapper.specs.Text.{Written, entry};
-ghost use Rattle.mapper.specs.Held.{renewed, spentDigits, Fine, Sought, Renewed, isFree, withHeld};
+ghost use Rattle.mapper.specs.Held.{ones, firstCells, renewed, spentDigits, Fine, Short, Sought, Renewed, Roomed, isFree, placed, withHeld};
 use crate::slices::at16;
 use crate::slices::at8;
 use lines::write::put;
@@ -23,6 +23,12 @@ pub struct Cells {
     pub next: usize,
     pub at: usize,
     pub lines: usize,
+}
+
+fn all_spent() -> [u8; 256]
+    ensures { λ r. ⌜ r ≡ ones 256 ⌝ }
+{
+    [1u8; 256]
 }
 
 fn renew(x: u8) -> u8
@@ -47,7 +53,7 @@ fn put_spent(out: &mut [u8], at: usize, x: u8, i: usize) -> usize
 }
 
 // Whether a signal is a gate that nobody wants.
-fn is_free(inputs: usize, left: &[u16], o: usize) -> bool
+pub(crate) fn is_free(inputs: usize, left: &[u16], o: usize) -> bool
     ensures { λ r. ⌜ r ≡ isFree inputs (now (left .entry)) o ⌝ }
 {
     if o < inputs {
@@ -57,6 +63,26 @@ fn is_free(inputs: usize, left: &[u16], o: usize) -> bool
 }
 
 impl Cells {
+    // Before the first line cell i below the inputs keeps input i, and every work cell is spent: the first set line names them all.
+    pub(crate) fn first(inputs: usize, row: usize) -> Cells
+        requires { ⌜ inputs ≤ 256 ⌝ }
+        ensures { λ r. ⌜ r ≡ firstCells inputs row ⌝ }
+    {
+        let mut held = all_spent();
+        let mut i = 0;
+        while i < inputs {
+            held[i] = 2;
+            i += 1;
+        }
+        Cells {
+            held: held,
+            row: row,
+            next: 0,
+            at: 0,
+            lines: 0,
+        }
+    }
+
     // The lowest ready cell from the cursor on, or the row's end.
     fn seek(mut self) -> Cells
         requires { ⌜ Fine self ⌝ }
@@ -76,8 +102,8 @@ impl Cells {
     }
 
     // One set line naming all spent cells ascending; they become ready.
-    fn set_spent(mut self, out: &mut [u8]) -> Cells
-        requires { ⌜ Fine self ⌝ }
+    pub(crate) fn set_spent(mut self, out: &mut [u8]) -> Cells
+        requires { ⌜ Short self ⌝ }
         ensures { λ r. ⌜ Renewed self (now (out .entry)) (now (out .exit)) r ⌝ }
     {
         let n = self.row;
@@ -98,17 +124,33 @@ impl Cells {
         self
     }
 
-    // Cell c keeps a signal. Below it no cell is ready.
-    fn place(mut self, c: usize) -> Cells
-        requires { ⌜ c < 256 ⌝ }
-        ensures { λ r. ⌜ r ≡ withHeld self (set (self .held) c 2) ⌝ }
+    // A cell for the next gate: the cursor at the lowest ready cell, after one set line where none is ready.
+    // At the row's end there is none even then.
+    pub(crate) fn with_room(self, out: &mut [u8]) -> Cells
+        requires { ⌜ Fine self × Short self ⌝ }
+        ensures { λ r. ⌜ Roomed self (now (out .entry)) (now (out .exit)) r ⌝ }
+    {
+        let t = self.seek();
+        if t.next < t.row {
+            return t;
+        }
+        let u = t.set_spent(out);
+        u.seek()
+    }
+
+    // Cell c keeps a signal, and the text goes on at a place after one line more.
+    pub(crate) fn place(mut self, c: usize, at: usize) -> Cells
+        requires { ⌜ (c < 256) × (self .lines ≤ 60000) ⌝ }
+        ensures { λ r. ⌜ r ≡ placed self c at ⌝ }
     {
         self.held[c] = 2;
+        self.at = at;
+        self.lines += 1;
         self
     }
 
     // The cells of those operands that nobody wants are spent.
-    fn release(
+    pub(crate) fn release(
         mut self,
         cell: &[u8],
         left: &[u16],
