@@ -4,4 +4,5 @@ mod cells;
 mod order;
 mod readers;
 mod slices;
+mod text;
 mod weights;
