@@ -8,3 +8,4 @@ pub mod Readership
 pub mod Orders
 pub mod Writing
 pub mod Cellwise
+pub mod Tabling
