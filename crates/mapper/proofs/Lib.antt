@@ -9,3 +9,11 @@ pub mod Orders
 pub mod Writing
 pub mod Cellwise
 pub mod Tabling
+pub mod Slots
+pub mod Keeping
+pub mod Opens
+pub mod Bounds
+pub mod Mirror
+pub mod Rooms
+pub mod Gatewise
+pub mod Runs

@@ -17,6 +17,7 @@ use Rattle.netlist.specs.declared.Netlist.{Netlist}
 use Rattle.netlist.specs.Flat.{from, gateIn, gatesIn, netlistIn}
 use Rattle.netlist.specs.Well.{WellFlat}
 use Rattle.mapper.specs.Sort.{Blank, Light}
+use Rattle.mapper.specs.Held.{isFree}
 use Rattle.mapper.specs.Wanted.{times, waiting, Placed, CountedUp, Counted, CountedDown, Readers, Wanted}
 use Rattle.mapper.proofs.Lists.{length-from, gates-length, gates-at}
 use Rattle.mapper.proofs.Marks.{mem-other}
@@ -134,3 +135,46 @@ reading-turn n w {left = left} {left′ = left′} {g = g} {k = k} r h e c = rec
 
 pub reading-end : (n : Netlist) → {left₀ left : List ℕ} {g : ℕ} → Reading (n .ops) (n .counts) left₀ left (n .gates) g → n .gates ≤ g → Readers n left
 reading-end n {left = left} {g = g} r h = let e : g ≡ n .gates = omega (arith, r .inside) in record { is = λ s. rw (← e) (r .is s ∙ waiting-from 0 (n .inputs) (gatesIn (n .ops) (n .counts) g) s) }
+
+-- ---- wanted or released
+
+and-swap : (a b c : Bool) → (a && (b && c)) ≡ (a && (c && b))
+and-swap true true true = refl
+and-swap true true false = refl
+and-swap true false true = refl
+and-swap true false false = refl
+and-swap false b c = refl
+
+-- a gate that nobody wants is released
+pub wanted-released : (n : Netlist) {done left : List ℕ} → Wanted n done left → (o : ℕ) → released (netlistIn n) done o ≡ isFree (n .inputs) left o
+unfolding released netlistIn
+wanted-released n {done} {left} w o =
+    let gs = gatesIn (n .ops) (n .counts) (n .gates) in
+    let outs = from (n .outs) 0 (n .outputs) in
+    let e : eqb (getD left o 0) 0 ≡ (served done (n .inputs) gs o && not (mem o outs)) =
+        ap (λ k. eqb k 0) (w .is o) ∙ zero-sum (waiting done (n .inputs) gs o) (times o outs) ∙ rw (waiting-served done (n .inputs) gs o, times-none o outs) in
+    and-swap (leb (n .inputs) o) (not (mem o outs)) (served done (n .inputs) gs o) ∙ ap (λ b. leb (n .inputs) o && b) (sym e)
+
+-- the operands of a gate that has not been executed are counted; once it is executed they are counted without it
+module _ (n : Netlist) (s : ℕ) (gate : n .inputs ≤ s) (known : s < n .inputs + n .gates) {done left : List ℕ} (fresh : mem s done ≡ false) (w : Wanted n done left) where
+  gs : List (List ℕ)
+  gs = gatesIn (n .ops) (n .counts) (n .gates)
+
+  less : (x : ℕ) → waiting done (n .inputs) gs x ≡ waiting (done ++ (s ∷ [])) (n .inputs) gs x + times x (gateIn (n .ops) (n .counts) (s - n .inputs))
+  unfolding gs
+  less x =
+      let e : n .inputs + (s - n .inputs) ≡ s = omega arith in
+      rw (← gates-at (n .ops) (n .counts) (n .gates) (s - n .inputs) (omega arith))
+      (rw e at (waiting-less done (n .inputs) gs x (s - n .inputs) (omega (arith, gates-length (n .ops) (n .counts) (n .gates))) (rw e fresh)))
+
+  pub still-counted : Counted (gateIn (n .ops) (n .counts) (s - n .inputs)) left
+  unfolding gs
+  still-counted = record { enough = λ x. omega (arith, w .is x, less x) }
+
+  pub wanted-after : {left′ : List ℕ} → CountedDown (gateIn (n .ops) (n .counts) (s - n .inputs)) left left′ → Wanted n (done ++ (s ∷ [])) left′
+  unfolding gs
+  wanted-after d = record { is = λ x. omega (arith, w .is x, less x, d .is x) }
+
+-- at the start nothing is executed, and the outputs are wanted too
+pub wanted-start : (n : Netlist) {left left′ : List ℕ} → Readers n left → CountedUp (from (n .outs) 0 (n .outputs)) left left′ → Wanted n [] left′
+wanted-start n r c = record { is = λ s. c .is s ∙ ap (λ k. k + times s (from (n .outs) 0 (n .outputs))) (r .is s) }

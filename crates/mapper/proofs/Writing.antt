@@ -68,7 +68,7 @@ pub set-text : (cs : List ℕ) → instructionText form01 (Set cs) ≡ written (
 unfolding instructionText form01
 set-text cs = rw (bytes-one cs)
 
-nor-text : (c : ℕ) (cs : List ℕ) → instructionText form01 (Nor c cs) ≡ written (0x13 ∷ c ∷ cs)
+pub nor-text : (c : ℕ) (cs : List ℕ) → instructionText form01 (Nor c cs) ≡ written (0x13 ∷ c ∷ cs)
 unfolding instructionText form01
 nor-text c cs = rw (bytes-one cs)
 

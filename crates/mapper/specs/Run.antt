@@ -66,7 +66,7 @@ pub record Mapped (n : Netlist) (row : ℕ) (gs cell out out′ : List ℕ) (at 
   pub text : Written out 0 (codeText (end .code)) out′ at
   pub count : lines ≡ length (end .code)
   pub table : (s : ℕ) → getD cell s 0 ≡ cellOf (end .slots) s
-  pub short : at ≤ 15000
+  pub short : at ≤ 15500
   pub few : lines ≤ 2000
 
 abbrev pub RunOf : Netlist → ℕ → List ℕ → List ℕ → List ℕ → List ℕ → Outcome → Type 0

@@ -94,10 +94,9 @@ pub(crate) fn run(
     requires { ⌜ Runnable n row m (now seq) (now left) (now cell) ⌝ }
     ensures { λ r. ⌜ RunOf n row (take m (now (seq .entry))) (now (cell .exit)) (now (out .entry)) (now (out .exit)) r ⌝ }
 {
-    let inputs = n.inputs;
     let ops = n.ops;
     let counts = n.counts;
-    let first = Cells::first(inputs, row);
+    let first = Cells::first(n.inputs, row);
     let mut st = first.set_spent(out);
     let mut i = 0;
     while i < m {
@@ -106,7 +105,7 @@ pub(crate) fn run(
         if row <= t.next {
             return Outcome::NoRoom;
         }
-        st = execute(t, inputs, &ops, &counts, s, left, cell, out);
+        st = execute(t, n.inputs, &ops, &counts, s, left, cell, out);
         i += 1;
     }
     Outcome::Fits {

@@ -1,98 +1,78 @@
+use native.Mathlib.Omega.{arith}
+use Prim.Native.Nat.{_-_}
+use mathlib.Core.Path.{_∙_}
+use lib.ListN.{take}
+use Rattle.mapper.proofs.Runs.{Running, opening-line, run-start, run-short, run-fine, run-none, run-executable, run-turn, run-end}
+use borrow.Author.Needs.{needs}
 use Rattle.mapper.proofs.mapping.run.Statement.{statement}
 use Rattle.mapper.proofs.mapping.run.Tie as tie
-use Rattle.mapper.proofs.mapping.run.Reads as reads
-use Rattle.mapper.proofs.mapping.run.Lts as lts
-use Rattle.mapper.proofs.cells.Cells.first.Reads as first-reads
-use Rattle.mapper.proofs.cells.Cells.set_spent.Reads as set-spent-reads
-use Rattle.mapper.proofs.cells.Cells.with_room.Reads as with-room-reads
-use Rattle.mapper.proofs.mapping.execute.Reads as execute-reads
-use Rattle.mapper.proofs.slices.at16.Reads as at16-reads
 
 abbrev Inv-loop : tie.InvT-loop
-Inv-loop row seq m left₀ cell₀ out₀ inputs ops counts st₀ i₀ left cell out st i = ?
+Inv-loop n row seq m left₀ cell₀ out₀ ops counts st₀ i₀ left cell out st i = Running n row (take m seq) left₀ cell₀ out₀ (st₀ .at) left cell out st i
 
 abbrev μ-loop : tie.MeasureT-loop
-μ-loop row seq m left₀ cell₀ out₀ inputs ops counts st₀ i₀ left cell out st i = ?
+μ-loop n row seq m left₀ cell₀ out₀ ops counts st₀ i₀ left cell out st i = m - i
 
--- src/mapping.rt:100:9
 first-requires : tie.Need-first-requires Inv-loop μ-loop
-first-requires c κs = ?
+first-requires c κs = omega (arith, c .before .before .before .before .before .before .pre .well .inputsMost)
 
--- src/mapping.rt:101:9
 set-spent-requires : tie.Need-set-spent-requires Inv-loop μ-loop
-set-spent-requires c κs = ?
+set-spent-requires c κs = let p = c .before .before .before .before .before .before .before .before .pre in
+    rw (c .before .first .ensures) (record { size = p .size; short = omega arith; few = omega arith })
 
--- src/mapping.rt:103:5
 loop-holds : tie.Need-loop-holds Inv-loop μ-loop
-loop-holds c = ?
+loop-holds c = run-start (c .before .before .before .before .before .before .before .before .before .before .before .pre) (rw (c .before .before .before .before .first .ensures) at (c .before .before .set-spent .ensures))
 
--- src/mapping.rt:104:17
 at16-requires : tie.Need-at16-requires Inv-loop μ-loop
-at16-requires c κs = ?
+at16-requires c κs = search needs
 
--- src/mapping.rt:104:17
 cast-s : tie.Need-cast-s Inv-loop μ-loop
-cast-s c = ?
+cast-s c = search needs
 
--- src/mapping.rt:105:13
 with-room-requires : tie.Need-with-room-requires Inv-loop μ-loop
-with-room-requires c κs = ?
+with-room-requires c κs = (run-fine (c .before .before .before .before .before .before .before .before .before .before .before .before .before .before .before .pre) (c .before .before .before .loop .inv), run-short (c .before .before .before .before .before .before .before .before .before .before .before .before .before .before .before .pre) (c .before .before .before .loop .inv))
 
--- src/mapping.rt:107:13
 same-length : tie.Need-same-length Inv-loop μ-loop
-same-length c = ?
+same-length c = c .before .before .before .before .before .before .before .before .loop .inv .wide′
 
--- src/mapping.rt:107:13
 same-length-2 : tie.Need-same-length-2 Inv-loop μ-loop
-same-length-2 c = ?
+same-length-2 c = c .before .before .before .before .before .before .before .before .loop .inv .wide
 
--- src/mapping.rt:107:13
 same-length-3 : tie.Need-same-length-3 Inv-loop μ-loop
-same-length-3 c = ?
+same-length-3 c = c .before .before .before .before .with-room .kept .1 .0 ∙ c .before .before .before .before .before .before .before .before .loop .inv .wide″ ∙ c .before .before .before .before .before .before .before .before .before .before .before .set-spent .kept .1 .0
 
--- src/mapping.rt:107:13
 returns : tie.Need-returns Inv-loop μ-loop
-returns c = ?
+returns c = run-none (c .before .before .before .before .before .before .before .before .before .before .before .before .before .before .before .before .before .before .before .before .pre) (c .before .before .before .before .before .before .before .before .loop .inv) (c .before .before .before .before .before .before .before .loop-test .taken) (c .before .before .before .before .before .before .at16 .ensures) (c .before .before .before .before .with-room .ensures) (c .if1 .taken)
 
--- src/mapping.rt:109:33
 slice-aggregate-execute : tie.Need-slice-aggregate-execute Inv-loop μ-loop
-slice-aggregate-execute c = ?
+slice-aggregate-execute c = let g = c .before .before .before .before .before .before .before .before .before .before .before .before .before .before .before .before .before .before .before .before .before .good .0 in search needs
 
--- src/mapping.rt:109:39
 slice-aggregate-execute-2 : tie.Need-slice-aggregate-execute-2 Inv-loop μ-loop
-slice-aggregate-execute-2 c = ?
+slice-aggregate-execute-2 c = let g = c .before .before .before .before .before .before .before .before .before .before .before .before .before .before .before .before .before .before .before .before .before .before .good .0 in search needs
 
--- src/mapping.rt:109:9
 execute-requires : tie.Need-execute-requires Inv-loop μ-loop
-execute-requires c κs = ?
+execute-requires c κs = run-executable (c .before .before .before .before .before .before .before .before .before .before .before .before .before .before .before .before .before .before .before .before .before .before .before .before .before .pre) (c .before .before .before .before .before .before .before .before .before .before .before .before .before .loop .inv) (c .before .before .before .before .before .before .before .before .before .before .before .before .loop-test .taken) (c .before .before .before .before .before .before .before .before .before .before .before .at16 .ensures) (c .before .before .before .before .before .before .before .before .before .with-room .ensures) (c .before .before .before .before .before .if1 .left)
 
--- src/mapping.rt:110:9
 add-i : tie.Need-add-i Inv-loop μ-loop
-add-i c = ?
+add-i c = omega (arith, c .before .before .before .before .before .before .before .before .before .before .before .before .before .before .before .before .before .before .before .loop-test .taken, c .before .before .before .before .before .before .before .before .before .before .before .before .before .before .before .before .before .before .before .before .before .before .before .before .before .before .before .before .before .before .before .before .pre .most)
 
--- src/mapping.rt:103:5
 loop-less : tie.Need-loop-less Inv-loop μ-loop
-loop-less c = ?
+loop-less c = search needs
 
--- src/mapping.rt:103:5
 loop-again : tie.Need-loop-again Inv-loop μ-loop
-loop-again c = ?
+loop-again c = run-turn (c .before .before .before .before .before .before .before .before .before .before .before .before .before .before .before .before .before .before .before .before .before .before .before .before .before .before .before .before .before .before .before .before .pre) (c .before .before .before .before .before .before .before .before .before .before .before .before .before .before .before .before .before .before .before .before .loop .inv) (c .before .before .before .before .before .before .before .before .before .before .before .before .before .before .before .before .before .before .before .loop-test .taken) (c .before .before .before .before .before .before .before .before .before .before .before .before .before .before .before .before .before .before .at16 .ensures) (c .before .before .before .before .before .before .before .before .before .before .before .before .before .before .before .before .with-room .ensures) (c .before .before .before .before .before .before .before .before .before .before .before .before .if1 .left) (c .before .before .before .before .before .before .execute .ensures) (c .before .before .before .before .before .before .execute .kept .1 .1 .1 .1 .1 .0) (c .before .before .before .before .before .before .execute .kept .1 .1 .1 .1 .1 .1 .0) (c .before .before .before .before .before .before .before .before .before .before .before .before .before .before .before .before .with-room .kept .1 .0) (c .before .before .before .before .before .before .execute .kept .1 .1 .1 .1 .1 .1 .1 .0)
 
--- src/mapping.rt:85:1
 same-length-4 : tie.Need-same-length-4 Inv-loop μ-loop
-same-length-4 c = ?
+same-length-4 c = c .before .loop .inv .wide′
 
--- src/mapping.rt:85:1
 same-length-5 : tie.Need-same-length-5 Inv-loop μ-loop
-same-length-5 c = ?
+same-length-5 c = c .before .loop .inv .wide
 
--- src/mapping.rt:85:1
 same-length-6 : tie.Need-same-length-6 Inv-loop μ-loop
-same-length-6 c = ?
+same-length-6 c = c .before .loop .inv .wide″ ∙ c .before .before .before .before .set-spent .kept .1 .0
 
--- src/mapping.rt:85:1
 returns-2 : tie.Need-returns-2 Inv-loop μ-loop
-returns-2 c = ?
+returns-2 c = run-end (c .before .before .before .before .before .before .before .before .before .before .before .before .before .pre) (c .before .loop .inv) (c .loop-test .left) (opening-line (c .before .before .before .before .before .before .before .before .before .before .before .before .before .args .n) (c .before .before .before .before .before .before .before .before .before .before .before .before .before .args .row) (omega (arith, c .before .before .before .before .before .before .before .before .before .before .before .before .before .pre .room)) (c .before .before .before .before .before .before .before .before .before .before .before .before .before .pre .size) (rw (c .before .before .before .before .before .before .first .ensures) at (c .before .before .before .before .set-spent .ensures)))
 
 pub run-spec : {M : Type 1} → statement M
 run-spec =
