@@ -1,13 +1,16 @@
 -- The netlist that flat arrays stand for, and what a reading says.
 -- Assumes nothing.
 use Prim.Native.Nat.{ℕ, zero, suc, _+_, _*_}
+use mathlib.Core.Path.{_≡_}
 use mathlib.Core.List.{List, [], _∷_, _++_}
 use lib.Dec.{eqb}
 use lib.ListN.{getD, take, drop}
 use Rattle.rules.specs.Basics.{pick}
-use Rattle.rules.specs.Refusals.{Res, good, refused}
+use Rattle.rules.specs.declared.Refusal.{Refusal}
+use Rattle.rules.specs.Form.{form01}
+use Rattle.rules.specs.Refusals.{Res, good, refused, _>>=_}
 use Rattle.rules.specs.Netlist as rules
-use Rattle.rules.specs.Netlist.{Part}
+use Rattle.rules.specs.Netlist.{Part, netlistLines, wellFormed}
 use Rattle.netlist.specs.declared.Netlist.{Netlist}
 use Rattle.netlist.specs.declared.Reading.{Reading}
 
@@ -40,3 +43,22 @@ readingOf r = pick (eqb (r .refusal .number) 0) (good (netlistIn (r .netlist))) 
 unfoldable pub partOf : List ℕ → Reading → Res (Part rules.Netlist)
 unfolding pick netlistIn
 partOf text r = pick (eqb (r .refusal .number) 0) (good (record { got = netlistIn (r .netlist); tail = drop (r .tail) text })) (refused (r .refusal))
+
+-- the netlist that a text begins with, and the text after it: its lines, then 6, then 7
+unfoldable pub frontOf : List ℕ → Res (Part rules.Netlist)
+unfolding netlistLines wellFormed _>>=_
+frontOf text = do
+  p ← netlistLines form01 text
+  N ← wellFormed (p .got)
+  good (record { got = N; tail = p .tail })
+
+-- what the refusal of a netlist says, number 0 where there is none
+unfoldable pub formedOf : Refusal → rules.Netlist → Res rules.Netlist
+unfolding pick
+formedOf r N = pick (eqb (r .number) 0) (good N) (refused r)
+
+-- a reading after 6 and 7 were asked of it
+pub record Judged (r q : Reading) : Type 0 where
+  pub tailSame : q .tail ≡ r .tail
+  pub netlistSame : q .netlist ≡ r .netlist
+  pub says : formedOf (q .refusal) (netlistIn (r .netlist)) ≡ wellFormed (netlistIn (r .netlist))

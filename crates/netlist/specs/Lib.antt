@@ -1,2 +1,5 @@
 pub mod Flat
+pub mod Keys
+pub mod Marks
+pub mod Steps
 pub mod Well

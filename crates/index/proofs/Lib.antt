@@ -1,0 +1,3 @@
+pub mod Keys
+pub mod Links
+pub mod Seeking

@@ -1,0 +1,17 @@
+pub mod Arrays
+pub mod OneLine
+pub mod HeadLine
+pub mod OutputLine
+pub mod Operands
+pub mod OneGate
+pub mod Following
+pub mod Numbered
+pub mod Whole
+pub mod LineWell
+pub mod Well
+pub mod FlatWell
+pub mod Marking
+pub mod Keyed
+pub mod Alike
+pub mod Entry
+pub mod Finding
