@@ -105,7 +105,7 @@ unfolding setCells
 halfway-set N {S} {i} b =
     let cs = allSpent (S .slots) in
     let t : length (codeText (S .code ++ (Set cs ∷ []))) ≡ length (codeText (S .code)) + (2 * suc (length cs) + 1) =
-        ap length (texts-snoc (S .code) (Set cs)) ∙ length-append (codeText (S .code)) (instructionText form01 (Set cs)) ∙ rw (set-text cs, written-length (0x12 ∷ cs)) in
+    ap length (texts-snoc (S .code) (Set cs)) ∙ length-append (codeText (S .code)) (instructionText form01 (Set cs)) ∙ rw (set-text cs, written-length (0x12 ∷ cs)) in
     let z : length (allSpent (setAll ready cs (S .slots))) ≡ 0 = no-more (S .slots) in
     let c = length-append (S .code) (Set cs ∷ []) in
     record { short = omega (arith, b .short, t, z); few = omega (arith, b .few, c) }
@@ -118,8 +118,8 @@ bounded-place N {S} {i} g c b h =
     let cells = map (cellOf (S .slots)) rel in
     let nor = Nor c (map (cellOf (S .slots)) os) in
     let t : length (codeText (S .code ++ (nor ∷ []))) ≡ length (codeText (S .code)) + (2 * suc (suc (length (map (cellOf (S .slots)) os))) + 1) =
-        ap length (texts-snoc (S .code) nor) ∙ length-append (codeText (S .code)) (instructionText form01 nor)
-        ∙ rw (nor-text c (map (cellOf (S .slots)) os), written-length (0x13 ∷ c ∷ map (cellOf (S .slots)) os)) in
+    ap length (texts-snoc (S .code) nor) ∙ length-append (codeText (S .code)) (instructionText form01 nor)
+    ∙ rw (nor-text c (map (cellOf (S .slots)) os), written-length (0x13 ∷ c ∷ map (cellOf (S .slots)) os)) in
     let a = length-map os (cellOf (S .slots)) in
     let e = length-map rel (cellOf (S .slots)) in
     let m = keep-most (released N (S .done ++ (g ∷ []))) os in

@@ -11,3 +11,5 @@ pub mod Mirror
 pub mod Rooms
 pub mod Gatewise
 pub mod Runs
+pub mod Bodies
+pub mod Delivering

@@ -31,7 +31,7 @@ wanted-released n {done} {left} w o =
     let gs = gatesIn (n .ops) (n .counts) (n .gates) in
     let outs = from (n .outs) 0 (n .outputs) in
     let e : eqb (getD left o 0) 0 ≡ (served done (n .inputs) gs o && not (mem o outs)) =
-        ap (λ k. eqb k 0) (w .is o) ∙ zero-sum (waiting done (n .inputs) gs o) (times o outs) ∙ rw (waiting-served done (n .inputs) gs o, times-none o outs) in
+    ap (λ k. eqb k 0) (w .is o) ∙ zero-sum (waiting done (n .inputs) gs o) (times o outs) ∙ rw (waiting-served done (n .inputs) gs o, times-none o outs) in
     and-swap (leb (n .inputs) o) (not (mem o outs)) (served done (n .inputs) gs o) ∙ ap (λ b. leb (n .inputs) o && b) (sym e)
 
 -- the operands of a gate that has not been executed are counted; once it is executed they are counted without it

@@ -155,7 +155,7 @@ module _ {buffer : List ℕ} {n : ℕ} {out₀ : List ℕ} {at : ℕ} where
       → Copying buffer n out₀ at out′ (i + 1)
   copying-turn {out} {out′} {i} {b} l w h e d =
       let c : drop i (take n buffer) ≡ b ∷ drop (suc i) (take n buffer) =
-          drop-cons (take n buffer) i 0 (omega (arith, length-take-le n buffer l)) ∙ rw (getD-take n buffer i 0 h, e) in
+      drop-cons (take n buffer) i 0 (omega (arith, length-take-le n buffer l)) ∙ rw (getD-take n buffer i 0 h, e) in
       let j : at + (i + 1) ≡ suc (at + i) = omega arith in
       record { inside = omega arith; wide = rw d (length-set out (at + i) b ∙ w .wide); same = rw (d, j, add-one i) (rw c at (w .same)) }
 

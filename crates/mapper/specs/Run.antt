@@ -69,7 +69,7 @@ pub record Mapped (n : Netlist) (row : ℕ) (gs cell out out′ : List ℕ) (at 
   pub short : at ≤ 15500
   pub few : lines ≤ 2000
 
-abbrev pub RunOf : Netlist → ℕ → List ℕ → List ℕ → List ℕ → List ℕ → Outcome → Type 0
+unfoldable pub RunOf : Netlist → ℕ → List ℕ → List ℕ → List ℕ → List ℕ → Outcome → Type 0
 RunOf n row gs cell out out′ (Fits at lines) = Mapped n row gs cell out out′ at lines
 RunOf n row gs cell out out′ NoRoom = ran n row gs ≡ refuse 9
 

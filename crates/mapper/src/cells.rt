@@ -12,8 +12,8 @@ ghost use Rattle.mapper.specs.Text.{Written, entry};
 ghost use Rattle.mapper.specs.Held.{ones, firstCells, renewed, spentDigits, Fine, Short, Sought, Renewed, Roomed, isFree, placed, withHeld};
 use lines::write::put;
 use lines::write::put_byte;
-use slices::at16;
 use slices::at8;
+use slices::at16;
 
 // held: 0 for a ready cell, 1 for a spent one, 2 for one that keeps a signal. No cell of the row below next is ready.
 // The text so far ends at the place at, after so many lines.

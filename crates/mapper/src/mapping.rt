@@ -12,8 +12,8 @@ use crate::cells::is_free;
 use crate::readers::count_down;
 use crate::text::put_nor;
 use netlist::Netlist;
-use slices::at16;
 use slices::at8;
+use slices::at16;
 use slices::put8;
 
 // The text's length and its number of lines, or no room in the row.

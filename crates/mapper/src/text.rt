@@ -10,8 +10,8 @@ ghost use Rattle.netlist.specs.Flat.{from};
 ghost use Rattle.mapper.specs.Text.{Written, entry, headLine};
 use lines::write::put;
 use lines::write::put_byte;
-use slices::at16;
 use slices::at8;
+use slices::at16;
 
 // A NOR line: the written cell c, then the cells of the k operands from a place on.
 pub(crate) fn put_nor(

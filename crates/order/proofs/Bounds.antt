@@ -137,16 +137,20 @@ flat-fits n e =
 pub well-flat : (n : Netlist) → WellFlat n → isFlat n ≡ true
 unfolding isFlat gateFits gateIn
 well-flat n w =
-    rw (le-leb (n .inputs) 64 (w .inputsMost), le-leb (n .gates) 512 (w .gatesMost), le-leb (n .outputs) 64 (w .outputsMost),
-    gates-of (n .inputs) (n .ops) (n .counts) 0 (n .gates) (λ g a b. gate g (omega arith)))
+    rw (
+      le-leb (n .inputs) 64 (w .inputsMost),
+      le-leb (n .gates) 512 (w .gatesMost),
+      le-leb (n .outputs) 64 (w .outputsMost),
+      gates-of (n .inputs) (n .ops) (n .counts) 0 (n .gates) (λ g a b. gate g (omega arith)),
+    )
     (all-of (λ o. ltb o (n .inputs + n .gates)) (from (n .outs) 0 (n .outputs)) (λ o m.
-        let r = from-mem (n .outs) 0 (n .outputs) o m in
-        let z : 0 + r .0 ≡ r .0 = omega arith in
-        lt-ltb o (n .inputs + n .gates) (rw (← r .2, z) (w .outputsLow (r .0) (r .1)))))
+    let r = from-mem (n .outs) 0 (n .outputs) o m in
+    let z : 0 + r .0 ≡ r .0 = omega arith in
+    lt-ltb o (n .inputs + n .gates) (rw (← r .2, z) (w .outputsLow (r .0) (r .1)))))
   where
     gate : (g : ℕ) → g < n .gates → (leb (getD (n .counts) g 0) 4 && all (λ o. ltb o (n .inputs + g)) (from (n .ops) (4 * g) (getD (n .counts) g 0))) ≡ true
     gate g h =
         rw (le-leb (getD (n .counts) g 0) 4 (w .few g h))
         (all-of (λ o. ltb o (n .inputs + g)) (from (n .ops) (4 * g) (getD (n .counts) g 0)) (λ o m.
-            let r = from-mem (n .ops) (4 * g) (getD (n .counts) g 0) o m in
-            lt-ltb o (n .inputs + g) (rw (← r .2) (w .lower g (r .0) h (r .1)))))
+        let r = from-mem (n .ops) (4 * g) (getD (n .counts) g 0) o m in
+        lt-ltb o (n .inputs + g) (rw (← r .2) (w .lower g (r .0) h (r .1)))))

@@ -15,10 +15,10 @@ unfolding from
 from-same l m at bt zero h = refl
 from-same l m at bt (suc n) h =
     let e : getD l at 0 ≡ getD m bt 0 =
-        (let p : at + 0 ≡ at = omega arith in let q : bt + 0 ≡ bt = omega arith in rw (p, q) at (h 0 (omega arith))) in
+    (let p : at + 0 ≡ at = omega arith in let q : bt + 0 ≡ bt = omega arith in rw (p, q) at (h 0 (omega arith))) in
     let t : from l (at + 1) n ≡ from m (bt + 1) n =
-        from-same l m (at + 1) (bt + 1) n
-        (λ k u. let p : at + 1 + k ≡ at + suc k = omega arith in let q : bt + 1 + k ≡ bt + suc k = omega arith in rw (p, q) (h (suc k) (omega arith))) in
+    from-same l m (at + 1) (bt + 1) n
+    (λ k u. let p : at + 1 + k ≡ at + suc k = omega arith in let q : bt + 1 + k ≡ bt + suc k = omega arith in rw (p, q) (h (suc k) (omega arith))) in
     cc
 
 pub from-all : (l : List ℕ) (n : ℕ) → n ≤ length l → from l 0 n ≡ take n l

@@ -33,7 +33,7 @@ module _ (n : Netlist) (w : Fits n) where
   pub visits-gate : (s o : ℕ) → mem o (visitOrder (netlistIn n) s) ≡ true → (n .inputs ≤ o) × (o < s)
   visits-gate s o m =
       let p = mem-gates (n .inputs) o (getD (gatesIn (n .ops) (n .counts) (n .gates)) (s - n .inputs) [])
-          (mem-sorted (weightIn (weightsTo (n .inputs) (n .ops) (n .counts) (n .gates))) o (gateOperands (n .inputs) (getD (gatesIn (n .ops) (n .counts) (n .gates)) (s - n .inputs) [])) (rw (rule-order n s) at m)) in
+      (mem-sorted (weightIn (weightsTo (n .inputs) (n .ops) (n .counts) (n .gates))) o (gateOperands (n .inputs) (getD (gatesIn (n .ops) (n .counts) (n .gates)) (s - n .inputs) [])) (rw (rule-order n s) at m)) in
       go (decLt (s - n .inputs) (n .gates)) (p .0) (p .1)
     where
       go : Dec (s - n .inputs < n .gates) → n .inputs ≤ o → mem o (getD (gatesIn (n .ops) (n .counts) (n .gates)) (s - n .inputs) []) ≡ true → (n .inputs ≤ o) × (o < s)
@@ -116,8 +116,8 @@ unfolding order roots gateSignals netlistIn
 order-steps n w =
     steps-each (λ g d. visit (visitOrder (netlistIn n)) (suc g) g d) (roots (netlistIn n))
     (λ s m d v.
-        let r = mem-upto s (n .inputs) (length (gatesIn (n .ops) (n .counts) (n .gates))) (mem-keep (λ x. not (isRead (netlistIn n) x)) s (gateSignals (netlistIn n)) m .1) in
-        steps-visit (visitOrder (netlistIn n)) (visits-lower n w) (λ x o q. visits-gate n w x o q .0) (suc s) s d (r .0) (omega (arith, r .1, length-gates (n .ops) (n .counts) (n .gates))) v)
+    let r = mem-upto s (n .inputs) (length (gatesIn (n .ops) (n .counts) (n .gates))) (mem-keep (λ x. not (isRead (netlistIn n) x)) s (gateSignals (netlistIn n)) m .1) in
+    steps-visit (visitOrder (netlistIn n)) (visits-lower n w) (λ x o q. visits-gate n w x o q .0) (suc s) s d (r .0) (omega (arith, r .1, length-gates (n .ops) (n .counts) (n .gates))) v)
     [] (steps-none (n .inputs) (n .inputs + n .gates))
 
 -- ---- what the code visits
@@ -157,7 +157,7 @@ module _ (n : Netlist) {vis cnt : List ℕ} (v : Visits n vis cnt) where
   in-order {left} {seq} {r} u o =
       let e : n .inputs + n .gates - n .inputs ≡ length (gatesIn (n .ops) (n .counts) (n .gates)) = omega (arith, length-gates (n .ops) (n .counts) (n .gates)) in
       let q : unread left ≡ (λ s. not (isRead (netlistIn n) s)) =
-          fun-ext (λ s. ap (λ x. eqb x 0) (u .is s) ∙ waiting-read (n .inputs) (gatesIn (n .ops) (n .counts) (n .gates)) s) in
+      fun-ext (λ s. ap (λ x. eqb x 0) (u .is s) ∙ waiting-read (n .inputs) (gatesIn (n .ops) (n .counts) (n .gates)) s) in
       record {
         fits = o .fits;
         is = o .is
@@ -212,8 +212,10 @@ readers-light n w r = record { all = λ s. rw (r .is s) (omega (arith, reads-mos
         go (no h) = rw (gates-past (n .ops) (n .counts) (n .gates) j (omega (arith, h))) (omega arith)
 
 pub outputs-placed : (n : Netlist) → Fits n → {left : List ℕ} → length left ≡ 576 → Placed (from (n .outs) 0 (n .outputs)) left
-outputs-placed n w l = record { inside = λ o m.
-    let r = from-mem (n .outs) 0 (n .outputs) o m in
-    let z : 0 + r .0 ≡ r .0 = omega arith in
-    let k : o < n .inputs + n .gates = rw (← r .2, z) (w .outputsLow (r .0) (r .1)) in
-    omega (arith, k, l, w .inputsMost, w .gatesMost) }
+outputs-placed n w l = record {
+  inside = λ o m.
+      let r = from-mem (n .outs) 0 (n .outputs) o m in
+      let z : 0 + r .0 ≡ r .0 = omega arith in
+      let k : o < n .inputs + n .gates = rw (← r .2, z) (w .outputsLow (r .0) (r .1)) in
+      omega (arith, k, l, w .inputsMost, w .gatesMost);
+}

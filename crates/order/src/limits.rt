@@ -6,8 +6,8 @@ ghost use Rattle.rules.specs.Basics.{all};
 ghost use Rattle.netlist.specs.Flat.{from};
 ghost use Rattle.order.specs.Plan.{gateFits, gatesFit, isFlat};
 use netlist::Netlist;
-use slices::at16;
 use slices::at8;
+use slices::at16;
 
 // Whether the k numbers from a place on are lower than a limit.
 fn all_below(list: &[u16], at: usize, k: usize, limit: usize) -> bool

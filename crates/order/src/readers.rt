@@ -7,8 +7,8 @@ ghost use Rattle.order.specs.Plan.{Fits};
 ghost use Rattle.order.specs.Sort.{Blank, Light};
 ghost use Rattle.order.specs.Wanted.{Placed, CountedUp, Readers};
 use netlist::Netlist;
-use slices::at16;
 use slices::at8;
+use slices::at16;
 use slices::put16;
 
 // Each of the n signals from a place on is wanted once more.

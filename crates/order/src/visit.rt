@@ -6,10 +6,10 @@ ghost use lib.ListN.{length, take};
 ghost use Rattle.rules.specs.Basics.{mem};
 ghost use Rattle.order.specs.Sort.{opsIn};
 ghost use Rattle.order.specs.Visit.{Tied, Ready, Appended, Visited, Rooted, Opened, Ordered};
-use slices::at16;
 use slices::at8;
-use slices::put16;
+use slices::at16;
 use slices::put8;
+use slices::put16;
 
 // Signal s executed: marked, and put at place n of the sequence.
 fn append(done: &mut [u8], seq: &mut [u16], n: usize, s: usize) -> usize
@@ -23,14 +23,7 @@ fn append(done: &mut [u8], seq: &mut [u16], n: usize, s: usize) -> usize
 
 // Signal s and what it needs, executed: vis and cnt have its gate operands in the order of visiting.
 // done marks the signals executed, seq has them in order, n is how many there are; the answer is how many there are then.
-fn visit(
-    vis: &[u16],
-    cnt: &[u8],
-    done: &mut [u8],
-    seq: &mut [u16],
-    n: usize,
-    s: usize,
-) -> usize
+fn visit(vis: &[u16], cnt: &[u8], done: &mut [u8], seq: &mut [u16], n: usize, s: usize) -> usize
     requires { ⌜ Ready (now vis) (now cnt) (now done) (now seq) n s ⌝ }
     ensures { λ r. ⌜ Visited (opsIn (now (vis .entry)) (now (cnt .entry))) (now (done .entry)) (now (seq .entry)) n s (now (done .exit)) (now (seq .exit)) r ⌝ }
 {

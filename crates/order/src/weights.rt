@@ -9,10 +9,10 @@ ghost use Rattle.netlist.specs.Flat.{from};
 ghost use Rattle.order.specs.Plan.{Fits};
 ghost use Rattle.order.specs.Sort.{listOf, placeOf, shiftedAt, Inserted, Added, Sorted, Blank, Light, Weighed, Room, Visits};
 use netlist::Netlist;
-use slices::at16;
 use slices::at8;
-use slices::put16;
+use slices::at16;
 use slices::put8;
+use slices::put16;
 
 // At most four signals.
 pub struct Four {

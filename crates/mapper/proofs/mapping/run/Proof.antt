@@ -2,6 +2,7 @@ use native.Mathlib.Omega.{arith}
 use Prim.Native.Nat.{_-_}
 use mathlib.Core.Path.{_∙_}
 use lib.ListN.{take}
+use Rattle.mapper.specs.Run.{RunOf}
 use Rattle.mapper.proofs.Runs.{Running, opening-line, run-start, run-short, run-fine, run-none, run-executable, run-turn, run-end}
 use borrow.Author.Needs.{needs}
 use Rattle.mapper.proofs.mapping.run.Statement.{statement}
@@ -42,6 +43,7 @@ same-length-3 : tie.Need-same-length-3 Inv-loop μ-loop
 same-length-3 c = c .before .before .before .before .with-room .kept .1 .0 ∙ c .before .before .before .before .before .before .before .before .loop .inv .wide″ ∙ c .before .before .before .before .before .before .before .before .before .before .before .set-spent .kept .1 .0
 
 returns : tie.Need-returns Inv-loop μ-loop
+unfolding RunOf
 returns c = run-none (c .before .before .before .before .before .before .before .before .before .before .before .before .before .before .before .before .before .before .before .before .pre) (c .before .before .before .before .before .before .before .before .loop .inv) (c .before .before .before .before .before .before .before .loop-test .taken) (c .before .before .before .before .before .before .at16 .ensures) (c .before .before .before .before .with-room .ensures) (c .if1 .taken)
 
 slice-aggregate-execute : tie.Need-slice-aggregate-execute Inv-loop μ-loop
@@ -72,6 +74,7 @@ same-length-6 : tie.Need-same-length-6 Inv-loop μ-loop
 same-length-6 c = c .before .loop .inv .wide″ ∙ c .before .before .before .before .set-spent .kept .1 .0
 
 returns-2 : tie.Need-returns-2 Inv-loop μ-loop
+unfolding RunOf
 returns-2 c = run-end (c .before .before .before .before .before .before .before .before .before .before .before .before .before .pre) (c .before .loop .inv) (c .loop-test .left) (opening-line (c .before .before .before .before .before .before .before .before .before .before .before .before .before .args .n) (c .before .before .before .before .before .before .before .before .before .before .before .before .before .args .row) (omega (arith, c .before .before .before .before .before .before .before .before .before .before .before .before .before .pre .room)) (c .before .before .before .before .before .before .before .before .before .before .before .before .before .pre .size) (rw (c .before .before .before .before .before .before .first .ensures) at (c .before .before .before .before .set-spent .ensures)))
 
 pub run-spec : {M : Type 1} → statement M

@@ -31,10 +31,16 @@ mul-count-up : tie.Need-mul-count-up Inv-loop μ-loop
 mul-count-up c = omega (arith, c .before .before .before .before .before .before .before .before .pre .0 .gatesMost)
 
 count-up-requires : tie.Need-count-up-requires Inv-loop μ-loop
-count-up-requires c κs = let w = c .before .before .before .before .before .before .before .before .before .pre .0 in
-    (omega (arith, w .gatesMost, c .before .before .before .before .loop-test .taken), (omega (arith, c .before .before .at8 .ensures, w .few _ (c .before .before .before .before .loop-test .taken)),
-    (record { all = λ i. omega (arith, c .before .before .before .before .before .loop .inv .light .all i, w .gatesMost, c .before .before .before .before .loop-test .taken) },
-    (rw (c .before .before .at8 .ensures) (operands-placed (c .before .before .before .before .before .before .before .before .before .args .n) w _ (c .before .before .before .before .loop-test .taken) _ (omega (arith, c .before .before .before .before .before .loop .inv .wide, c .before .before .before .before .before .before .before .before .before .pre .1 .1)))))))
+count-up-requires c κs = let w = c .before .before .before .before .before .before .before .before .before .pre .0 in (
+  omega (arith, w .gatesMost, c .before .before .before .before .loop-test .taken),
+  (
+    omega (arith, c .before .before .at8 .ensures, w .few _ (c .before .before .before .before .loop-test .taken)),
+    (
+      record { all = λ i. omega (arith, c .before .before .before .before .before .loop .inv .light .all i, w .gatesMost, c .before .before .before .before .loop-test .taken) },
+      (rw (c .before .before .at8 .ensures) (operands-placed (c .before .before .before .before .before .before .before .before .before .args .n) w _ (c .before .before .before .before .loop-test .taken) _ (omega (arith, c .before .before .before .before .before .loop .inv .wide, c .before .before .before .before .before .before .before .before .before .pre .1 .1)))),
+    ),
+  ),
+)
 
 add-g : tie.Need-add-g Inv-loop μ-loop
 add-g c = search needs

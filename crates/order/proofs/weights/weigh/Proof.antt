@@ -49,15 +49,15 @@ same-length-3 c = search needs
 returns : tie.Need-returns
 unfolding weigh gateIn
 returns c = record {
-      n = c .before .before .before .before .before .before .before .before .before .before .before .before .before .sorted .result .n;
-      a = c .before .before .before .before .before .before .before .before .before .before .before .before .before .sorted .result .a;
-      few = omega (arith, c .before .before .before .before .before .before .before .before .before .before .before .before .before .sorted .ensures .few, c .before .before .before .before .before .before .before .before .before .before .before .before .before .before .before .at8 .ensures, c .before .before .before .before .before .before .before .before .before .before .before .before .before .before .before .before .before .before .before .before .before .pre .1 .1 .0);
-      long = search needs;
-      order = rw (← c .before .before .before .before .before .before .before .before .before .before .before .before .before .before .before .at8 .ensures) (c .before .before .before .before .before .before .before .before .before .before .before .before .before .sorted .ensures .is);
-      table = rw (← c .before .before .before .before .before .before .before .before .before .before .before .before .before .before .before .at8 .ensures, ← c .before .before .before .before .before .before .before .before .before .before .before .before .before .sorted .ensures .is, ← c .before .before .before .before .before .before .before .before .before .before .before .weight-of .ensures) (c .before .before .before .before .before .before .before .before .before .put16 .ensures);
-      places = c .before .before .before .before .store .ensures .0;
-      count = c .before .before .before .before .store .ensures .1;
-    }
+  n = c .before .before .before .before .before .before .before .before .before .before .before .before .before .sorted .result .n;
+  a = c .before .before .before .before .before .before .before .before .before .before .before .before .before .sorted .result .a;
+  few = omega (arith, c .before .before .before .before .before .before .before .before .before .before .before .before .before .sorted .ensures .few, c .before .before .before .before .before .before .before .before .before .before .before .before .before .before .before .at8 .ensures, c .before .before .before .before .before .before .before .before .before .before .before .before .before .before .before .before .before .before .before .before .before .pre .1 .1 .0);
+  long = search needs;
+  order = rw (← c .before .before .before .before .before .before .before .before .before .before .before .before .before .before .before .at8 .ensures) (c .before .before .before .before .before .before .before .before .before .before .before .before .before .sorted .ensures .is);
+  table = rw (← c .before .before .before .before .before .before .before .before .before .before .before .before .before .before .before .at8 .ensures, ← c .before .before .before .before .before .before .before .before .before .before .before .before .before .sorted .ensures .is, ← c .before .before .before .before .before .before .before .before .before .before .before .weight-of .ensures) (c .before .before .before .before .before .before .before .before .before .put16 .ensures);
+  places = c .before .before .before .before .store .ensures .0;
+  count = c .before .before .before .before .store .ensures .1;
+}
 
 pub weigh-spec : {M : Type 1} → statement M
 weigh-spec =
