@@ -1,0 +1,15 @@
+pub mod Counting
+pub mod Wants
+pub mod Writing
+pub mod Cellwise
+pub mod Tabling
+pub mod Slots
+pub mod Keeping
+pub mod Opens
+pub mod Bounds
+pub mod Mirror
+pub mod Rooms
+pub mod Gatewise
+pub mod Runs
+pub mod Bodies
+pub mod Delivering

@@ -1,0 +1,4 @@
+pub mod Sort
+pub mod Visit
+pub mod Wanted
+pub mod Plan
