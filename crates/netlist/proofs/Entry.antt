@@ -20,33 +20,45 @@ use Rattle.lines.specs.Line.{endsAt}
 use Rattle.lines.proofs.Meaning.{ends-good, ends-refused}
 use Rattle.netlist.specs.declared.Netlist.{Netlist}
 use Rattle.netlist.specs.declared.Reading.{Reading}
-use Rattle.netlist.specs.Flat.{from, gatesIn, netlistIn, partOf, readingOf, frontOf, formedOf, Judged}
+use Rattle.netlist.specs.Flat.{from, gatesIn, netlistIn, partOf, readingOf, frontOf, firstOf, formedOf, Judged}
 use Rattle.netlist.specs.Steps.{refusalIn}
 use Rattle.netlist.proofs.Numbered.{numbered-end}
 
 -- ---- 6, then 7
 
-module _ (n : Netlist) where
-  abbrev N : rules.Netlist
-  N = netlistIn n
+module _ (u t o : Bool) where
+  pub first-unused : u ≡ false → record { number = 6 } ≡ firstOf u t o
+  unfolding firstOf pick
+  first-unused e = rw e
 
-  pub unused : allUsed N ≡ false → formedOf (record { number = 6 }) N ≡ wellFormed N
-  unfolding formedOf wellFormed pick _>>_ require
-  unused e = rw e
+  module _ (e : u ≡ true) where
+    pub first-gates : t ≡ true → record { number = 7 } ≡ firstOf u t o
+    unfolding firstOf pick
+    first-gates f = rw (e, f)
 
-  module _ (u : allUsed N ≡ true) where
-    pub twin-gates : twins (gatesIn (n .ops) (n .counts) (n .gates)) ≡ true → formedOf (record { number = 7 }) N ≡ wellFormed N
-    unfolding formedOf wellFormed pick _>>_ require netlistIn
-    twin-gates e = rw (u, e)
+    module _ (f : t ≡ false) where
+      pub first-outputs : o ≡ true → record { number = 7 } ≡ firstOf u t o
+      unfolding firstOf pick
+      first-outputs g = rw (e, f, g)
 
-    module _ (t : twins (gatesIn (n .ops) (n .counts) (n .gates)) ≡ false) where
-      pub twin-outputs : repeats (from (n .outs) 0 (n .outputs)) ≡ true → formedOf (record { number = 7 }) N ≡ wellFormed N
-      unfolding formedOf wellFormed pick _>>_ require netlistIn
-      twin-outputs e = rw (u, t, e)
+      pub first-none : o ≡ false → record { number = 0 } ≡ firstOf u t o
+      unfolding firstOf pick
+      first-none g = rw (e, f, g)
 
-      pub formed : repeats (from (n .outs) 0 (n .outputs)) ≡ false → formedOf (record { number = 0 }) N ≡ wellFormed N
-      unfolding formedOf wellFormed pick _>>_ require netlistIn
-      formed e = rw (u, t, e)
+-- the tests as the code found them say what document 01 says
+pub formed : (n : Netlist) (u t o : Bool) (r : Refusal) → u ≡ allUsed (netlistIn n) → t ≡ twins (gatesIn (n .ops) (n .counts) (n .gates)) → o ≡ repeats (from (n .outs) 0 (n .outputs))
+    → r ≡ firstOf u t o → formedOf r (netlistIn n) ≡ wellFormed (netlistIn n)
+unfolding formedOf firstOf wellFormed netlistIn
+formed n u t o r e f g h = rw (h, ← e, ← f, ← g) (go u t o)
+  where
+    N : rules.Netlist
+    N = netlistIn n
+
+    go : (u t o : Bool) → formedOf (firstOf u t o) N ≡ (require u 6 >> (require (not t) 7 >> (require (not o) 7 >> good N)))
+    go true true o = refl
+    go true false true = refl
+    go true false false = refl
+    go false t o = refl
 
 -- ---- after the lines
 

@@ -2,6 +2,7 @@
 -- Assumes nothing.
 use Prim.Native.Nat.{ℕ, zero, suc, _+_, _*_}
 use mathlib.Core.Path.{_≡_}
+use mathlib.Core.Bool.{Bool}
 use mathlib.Core.List.{List, [], _∷_, _++_}
 use lib.Dec.{eqb}
 use lib.ListN.{getD, take, drop}
@@ -51,6 +52,14 @@ frontOf text = do
   p ← netlistLines form01 text
   N ← wellFormed (p .got)
   good (record { got = N; tail = p .tail })
+
+-- 6 goes before 7; number 0 where there is none
+unfoldable pub firstOf : Bool → Bool → Bool → Refusal
+unfolding pick
+firstOf used twinGates twinOutputs =
+    pick used
+    (pick twinGates (record { number = 7 }) (pick twinOutputs (record { number = 7 }) (record { number = 0 })))
+    (record { number = 6 })
 
 -- what the refusal of a netlist says, number 0 where there is none
 unfoldable pub formedOf : Refusal → rules.Netlist → Res rules.Netlist

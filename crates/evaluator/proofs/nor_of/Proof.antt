@@ -19,6 +19,10 @@ abbrev μ-loop : tie.MeasureT-loop
 loop-holds : tie.Need-loop-holds Inv-loop μ-loop
 loop-holds c = norring-start _ _ _ _
 
+-- src/lib.rt:59:11
+add-loop : tie.Need-add-loop Inv-loop μ-loop
+add-loop c = search needs
+
 -- src/lib.rt:60:34
 add-at16 : tie.Need-add-at16 Inv-loop μ-loop
 add-at16 c = search needs
@@ -62,6 +66,7 @@ nor-of-spec =
     Inv-loop
     μ-loop
     loop-holds
+    add-loop
     add-at16
     at16-requires
     cast-at8
