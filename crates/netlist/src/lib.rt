@@ -133,31 +133,24 @@ pub fn tail(text: &[u8]) -> &[u8]
 }
 
 // 6 goes before 7; number 0 where there is none.
-fn first_of(used: bool, twin_gates: bool, twin_outputs: bool) -> Refusal
-    ensures { λ r. ⌜ r ≡ firstOf used «twin_gates» «twin_outputs» ⌝ }
+fn first_of(used: bool, twins: bool) -> Refusal
+    ensures { λ r. ⌜ r ≡ firstOf used twins ⌝ }
 {
     if !used {
         return Refusal { number: 6 };
     }
-    if twin_gates {
-        return Refusal { number: 7 };
-    }
-    if twin_outputs {
+    if twins {
         return Refusal { number: 7 };
     }
     Refusal { number: 0 }
 }
 
-// The refusal of a netlist whose lines read well: 6, then 7.
+// The refusal of a netlist whose lines read well.
 fn well_formed(n: Netlist) -> Refusal
     requires { ⌜ WellFlat n ⌝ }
     ensures { λ r. ⌜ formedOf r (netlistIn n) ≡ wellFormed (netlistIn n) ⌝ }
 {
-    first_of(
-        used::all_used(n),
-        twins::twin_gates(n),
-        twins::twin_outputs(n),
-    )
+    first_of(used::all_used(n), twins::any_twins(n))
 }
 
 // A reading of lines, with 6 and 7 asked of its netlist.

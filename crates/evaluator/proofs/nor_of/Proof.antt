@@ -41,7 +41,7 @@ at8-requires c κs = search needs
 
 -- src/lib.rt:61:13
 returns : tie.Need-returns Inv-loop μ-loop
-returns c = norring-stop (c .before .before .before .before .loop .inv) _ _ (c .before .before .before .loop-test .taken) (c .before .before .at16 .ensures) (c .before .at8 .ensures) (c .if1 .taken)
+returns c = norring-stop (c .before .before .before .before .loop .inv) _ _ (omega (arith, c .before .before .before .loop-test .taken)) (c .before .before .at16 .ensures) (c .before .at8 .ensures) (c .if1 .taken)
 
 -- src/lib.rt:63:9
 add-j : tie.Need-add-j Inv-loop μ-loop
@@ -53,7 +53,7 @@ loop-less c = search needs
 
 -- src/lib.rt:59:5
 loop-again : tie.Need-loop-again Inv-loop μ-loop
-loop-again c = norring-turn (c .before .before .before .before .loop .inv) _ _ (c .before .before .before .loop-test .taken) (c .before .before .at16 .ensures) (c .before .at8 .ensures) (c .if1 .left)
+loop-again c = norring-turn (c .before .before .before .before .loop .inv) _ _ (omega (arith, c .before .before .before .loop-test .taken)) (c .before .before .at16 .ensures) (c .before .at8 .ensures) (c .if1 .left)
 
 -- src/lib.rt:54:1
 returns-2 : tie.Need-returns-2 Inv-loop μ-loop
