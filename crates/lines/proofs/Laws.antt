@@ -2,6 +2,7 @@
 use Prim.Native.Nat.{ℕ, zero, suc, _+_, _-_, _*_, _/_, _%_, _<_, _≤_}
 use native.Mathlib.Omega.{arith}
 use native.Mathlib.Numerals.{add-one}
+use native.Mathlib.Decide.{decLt}
 use mathlib.Core.Path.{_≡_, refl, sym, ap, _∙_, subst}
 use mathlib.Core.Bool.{Bool, true, false, _&&_, _||_}
 use mathlib.Core.List.{List, [], _∷_, _++_}
@@ -60,6 +61,29 @@ value-letter c h l = simp (le-leb 48 c (omega arith), lt-leb c 57 (omega arith),
 pub value-high : (c : ℕ) → 71 ≤ c → valueOf c ≡ 0
 unfolding valueOf pick
 value-high c h = simp (le-leb 48 c (omega arith), lt-leb c 57 (omega arith), le-leb 65 c (omega arith), lt-leb c 70 h)
+
+-- a digit's value without telling 0-9 from A-F: the low four bits, and 9 more for a letter
+module _ (c : ℕ) (least : 48 ≤ c) (most : c ≤ 70) where
+  pub value-gap : c % 16 < c / 64 → valueOf c ≡ 0
+  value-gap h = value-between c (omega arith) (omega arith)
+
+  pub value-none : c / 64 ≤ c % 16 → 10 - c / 64 * 4 ≤ c % 16 - c / 64 → valueOf c ≡ 0
+  value-none h l = value-between c (omega arith) (omega arith)
+
+  pub value-quick : c / 64 ≤ c % 16 → c % 16 - c / 64 < 10 - c / 64 * 4 → c % 16 + c / 64 * 9 ≡ valueOf c
+  value-quick h l = go (decLt c 64)
+    where
+      go : Dec (c < 64) → c % 16 + c / 64 * 9 ≡ valueOf c
+      go (yes u) =
+          let q : c / 64 ≡ 0 = omega arith in
+          let r : c % 16 ≡ c - 48 = omega arith in
+          let z : c % 16 + c / 64 * 9 ≡ c - 48 = omega (arith, q, r) in
+          z ∙ sym (value-number c least (omega (arith, q, r, l)))
+      go (no u) =
+          let q : c / 64 ≡ 1 = omega arith in
+          let r : c % 16 ≡ c - 64 = omega arith in
+          let z : c % 16 + c / 64 * 9 ≡ c - 55 = omega (arith, q, r) in
+          z ∙ sym (value-letter c (omega (arith, q, r, h)) (omega arith))
 
 pub value-small : (c : ℕ) → valueOf c ≤ 15
 unfolding valueOf

@@ -40,23 +40,25 @@ fn is_digit(c: u8) -> bool
     c < 71
 }
 
-// What a digit stands for; any other character counts 0.
+// What a digit stands for; any other character counts 0. No branch tells 0-9 from A-F: their mixture cannot be foreseen.
 fn value(c: u8) -> u8
     ensures { λ r. ⌜ r ≡ valueOf c ⌝ }
 {
     if c < 48 {
         return 0;
     }
-    if c < 58 {
-        return c - 48;
-    }
-    if c < 65 {
+    if 70 < c {
         return 0;
     }
-    if c < 71 {
-        return c - 55;
+    let letter = c / 64;
+    let low = c % 16;
+    if low < letter {
+        return 0;
     }
-    0
+    if 10 - letter * 4 <= low - letter {
+        return 0;
+    }
+    low + letter * 9
 }
 
 // How many digits stand from a place on.

@@ -1,0 +1,10 @@
+pub mod Shapes
+pub mod Defended
+pub mod Tight
+pub mod Demands
+pub mod Wrong
+pub mod ShutOut
+pub mod TrueOrder
+pub mod Passes
+pub mod Twice
+pub mod NoRoom

@@ -1,0 +1,13 @@
+pub mod Digits
+pub mod Turns
+pub mod Judging
+pub mod Framed
+pub mod Heading
+pub mod Onward
+pub mod Decoding
+pub mod Saying
+pub mod Whole
+pub mod Listing
+pub mod Outcomes
+pub mod Running
+pub mod ReadsWell

@@ -1,0 +1,4 @@
+pub mod Decoded
+pub mod Answers
+pub mod Runs
+pub mod Well

@@ -1,0 +1,48 @@
+//! Rows: simulate, under every budget from 0 to the count and some over it.
+
+use crate::calls;
+use crate::given::{hold, Given};
+use crate::sequences;
+use crate::tally::Tally;
+use second::generate::{netlist, Random};
+
+pub fn once(r: &mut Random, tally: &mut Tally) {
+    let most = if r.once_in(40) { 512 } else { 12 };
+    let netlist = netlist(r, most);
+    let text = sequences::any(r, &netlist);
+    let (cells, instructions) =
+        second::read_sequence(&text).map_or((5, 2), |s| (s.row, s.instructions.len()));
+    let row = row(r, cells);
+    for budget in budgets(r, instructions) {
+        tally.note(
+            "simulate",
+            &second::simulate(&text, &mut row.clone(), budget),
+        );
+        let given = Given {
+            texts: vec![text.clone()],
+            bytes: row.clone(),
+            numbers: vec![budget],
+        };
+        hold(calls::simulate, given);
+    }
+}
+
+/// A row of zeros and ones, now and then too long or with another byte.
+fn row(r: &mut Random, cells: usize) -> Vec<u8> {
+    let more = usize::from(r.once_in(20));
+    let mut row = r.bits(cells + more);
+    if r.once_in(20) {
+        row[0] = 2 + r.below(254) as u8;
+    }
+    row
+}
+
+/// Every budget where the sequence is short, else some of them.
+fn budgets(r: &mut Random, instructions: usize) -> Vec<u64> {
+    let mut budgets: Vec<u64> = match instructions < 60 {
+        true => (0..=instructions as u64).collect(),
+        false => (0..20).map(|_| r.below(instructions + 1) as u64).collect(),
+    };
+    budgets.extend([instructions as u64 + 1, u64::MAX]);
+    budgets
+}

@@ -1,0 +1,64 @@
+//! Netlist texts, good and damaged: the reading's number, the tail, and evaluate.
+
+use crate::calls;
+use crate::given::{hold, Given};
+use crate::tally::Tally;
+use second::generate::{damaged, netlist, text_of, Random};
+
+pub fn once(r: &mut Random, tally: &mut Tally) {
+    if r.once_in(500) {
+        for text in edges() {
+            one(r, text, 2, tally);
+        }
+    }
+    let most = if r.once_in(50) { 512 } else { 24 };
+    let netlist = netlist(r, most);
+    let mut text = text_of(&netlist);
+    if !r.once_in(4) {
+        text = damaged(r, &text);
+    }
+    one(r, text, netlist.inputs, tally);
+}
+
+/// Texts at the edges of the rule for lines and of a head's numbers.
+fn edges() -> Vec<Vec<u8>> {
+    let long = |digits: usize| [vec![b'0'; digits], vec![b'\n']].concat();
+    let short = ["", "\n", "0", "01", "01\n", "FF\n01", "0102000501", "0a\n"];
+    let heads = [
+        "0100000101",
+        "0140000101",
+        "0141000101",
+        "0101000001",
+        "0101020001",
+        "0101020101",
+        "0101000100",
+        "0101000140",
+        "0101000141",
+    ];
+    let mut texts: Vec<Vec<u8>> = short.map(|text| text.as_bytes().to_vec()).to_vec();
+    texts.extend([long(514), long(515), long(516), vec![b'0'; 65_536], vec![0]]);
+    texts.extend(heads.map(|head| format!("{head}\n").into_bytes()));
+    texts
+}
+
+fn one(r: &mut Random, text: Vec<u8>, inputs: usize, tally: &mut Tally) {
+    let more = usize::from(r.once_in(10));
+    let mut bits = r.bits(inputs + more);
+    if r.once_in(10) {
+        bits[0] = 2 + r.below(254) as u8;
+    }
+    let size = r.pick(&[0, 1, 2, 64, 70]).unwrap_or(0);
+    tally.note("read", &second::read(&text));
+    tally.note(
+        "evaluate",
+        &second::evaluate(&text, &bits, &mut vec![0; size]),
+    );
+    let given = Given {
+        texts: vec![text],
+        bytes: bits,
+        numbers: vec![size as u64],
+    };
+    hold(calls::read, given.clone());
+    hold(calls::tail, given.clone());
+    hold(calls::evaluate, given);
+}

@@ -1,0 +1,76 @@
+//! The proved calls. An answer is its value, or minus the refusal's number.
+
+extern "C" {
+    fn bhedhmurali_read(text: *const u8, text_size: usize) -> i64;
+    fn bhedhmurali_tail(text: *const u8, text_size: usize) -> usize;
+    fn bhedhmurali_evaluate(
+        text: *const u8,
+        text_size: usize,
+        inputs: *const u8,
+        inputs_size: usize,
+        out: *mut u8,
+        out_size: usize,
+    ) -> i64;
+    fn bhedhmurali_simulate(
+        text: *const u8,
+        text_size: usize,
+        row: *mut u8,
+        row_size: usize,
+        budget: usize,
+    ) -> i64;
+    fn bhedhmurali_frame(text: *const u8, text_size: usize, at: usize) -> usize;
+    fn bhedhmurali_next(text: *const u8, text_size: usize, at: usize) -> usize;
+}
+
+/// A call's answer: the value, or the refusal's number.
+pub type Answer = Result<usize, u8>;
+
+fn answer(coded: i64) -> Answer {
+    usize::try_from(coded).map_err(|_| u8::try_from(-coded).unwrap_or(u8::MAX))
+}
+
+/// 0 where the text is a netlist that reads well.
+pub fn read(text: &[u8]) -> Answer {
+    answer(unsafe { bhedhmurali_read(text.as_ptr(), text.len()) })
+}
+
+/// Where the part of the text that follows the netlist begins.
+pub fn tail(text: &[u8]) -> usize {
+    unsafe { bhedhmurali_tail(text.as_ptr(), text.len()) }
+}
+
+pub fn evaluate(text: &[u8], inputs: &[u8], out: &mut [u8]) -> Answer {
+    answer(unsafe {
+        bhedhmurali_evaluate(
+            text.as_ptr(),
+            text.len(),
+            inputs.as_ptr(),
+            inputs.len(),
+            out.as_mut_ptr(),
+            out.len(),
+        )
+    })
+}
+
+pub fn simulate(text: &[u8], row: &mut [u8], budget: u64) -> Answer {
+    let budget = usize::try_from(budget).unwrap_or(usize::MAX);
+    answer(unsafe {
+        bhedhmurali_simulate(
+            text.as_ptr(),
+            text.len(),
+            row.as_mut_ptr(),
+            row.len(),
+            budget,
+        )
+    })
+}
+
+/// How many digits the frame at a place has, and the place after it.
+pub fn frame(text: &[u8], at: usize) -> (usize, usize) {
+    unsafe {
+        (
+            bhedhmurali_frame(text.as_ptr(), text.len(), at),
+            bhedhmurali_next(text.as_ptr(), text.len(), at),
+        )
+    }
+}
