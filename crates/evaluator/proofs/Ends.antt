@@ -1,21 +1,20 @@
 -- How evaluating ends: the netlist's refusal, 17, 10, or the outputs in the buffer's first bytes.
-use Prim.Native.Nat.{ℕ, zero, suc, _+_, _-_, _<_, _≤_}
+use Prim.Native.Nat.{ℕ, _+_, _<_, _≤_}
 use native.Mathlib.Omega.{arith}
 use mathlib.Core.Path.{_≡_, refl, sym, ap, _∙_}
-use mathlib.Core.Bool.{Bool, true, false, _&&_}
+use mathlib.Core.Bool.{true, false}
 use mathlib.Core.List.{List, [], _∷_, _++_, map}
-use lib.Dec.{eqb, ltb, leb}
-use lib.ListN.{getD, length, take, drop, replicate, length-replicate, length-map}
+use lib.Dec.{eqb, leb}
+use lib.ListN.{getD, length, take, drop, length-replicate, length-map}
 use lib.Seq.{sets, sets-eq, length-sets, take-append-seam, getD-take}
-use borrow.Author.Tests.{eq-eqb, ne-eqb, lt-ltb, le-ltb, eqb-true}
-use Rattle.rules.specs.declared.Answer.{Answer}
+use borrow.Author.Tests.{ne-eqb, lt-ltb, le-ltb, eqb-true}
 use Rattle.rules.specs.declared.Answer.the-variants.{Given, Refused}
 use Rattle.rules.specs.Basics.{pick, mem, all}
 use Rattle.rules.specs.Form.{form01}
-use Rattle.rules.specs.Refusals.{Res, good, refused, _>>=_, _>>_, require}
+use Rattle.rules.specs.Refusals.{good, refused, _>>=_, _>>_, require}
 use Rattle.rules.specs.Netlist.{netlistOf}
 use Rattle.rules.specs.Values.{nor, table, values, outputValues, areBits}
-use Rattle.rules.specs.Calls.{Outcome, delivered, evaluated, evaluateOutcome}
+use Rattle.rules.specs.Calls.{delivered, evaluated, evaluateOutcome}
 use Rattle.rules.proofs.Laws.{and-true, cons-self, cons-more}
 use Rattle.netlist.specs.declared.Netlist.{Netlist}
 use Rattle.netlist.specs.declared.Reading.{Reading}

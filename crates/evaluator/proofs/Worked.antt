@@ -1,13 +1,12 @@
 -- The gates worked out one after the other.
-use Prim.Native.Nat.{ℕ, zero, suc, _+_, _-_, _*_, _<_, _≤_}
+use Prim.Native.Nat.{ℕ, suc, _+_, _-_, _*_, _<_, _≤_}
 use native.Mathlib.Omega.{arith}
 use native.Mathlib.Numerals.{add-one}
 use mathlib.Core.Path.{_≡_, refl, sym, ap, _∙_}
-use mathlib.Core.Bool.{Bool, true, false}
+use mathlib.Core.Bool.{true}
 use mathlib.Core.List.{List, [], _∷_, _++_}
-use lib.Dec.{eqb}
 use lib.ListN.{getD, length, take, set, length-set}
-use lib.Seq.{take-suc-set, take-set-le, getD-take}
+use lib.Seq.{take-suc-set, getD-take}
 use borrow.Author.Tests.{eq-eqb, ne-eqb}
 use Rattle.rules.specs.Basics.{pick, mem}
 use Rattle.rules.specs.Values.{nor, table}
@@ -27,27 +26,27 @@ pub norring-start : (values ops : List ℕ) (at k : ℕ) → Norring values ops 
 norring-start values ops at k = record { most = omega arith; same = ap (nor values) (from-start ops at k) }
 
 module _ {values ops : List ℕ} {at k j : ℕ} (w : Norring values ops at k j) where
-  pub norring-turn : (o v : ℕ) → j < k → o ≡ getD ops (at + j) 0 → v ≡ getD values o 0 → v ≡ 0 → Norring values ops at k (j + 1)
+  pub norring-turn : (o v : ℕ) → j + 1 ≤ k → o ≡ getD ops (at + j) 0 → v ≡ getD values o 0 → v ≡ 0 → Norring values ops at k (j + 1)
   unfolding nor pick
   norring-turn o v h e f g = record {
     most = omega arith;
     same =
         let y : getD values (getD ops (at + j) 0) 0 ≡ 0 = ap (λ x. getD values x 0) (sym e) ∙ sym f ∙ g in
         let z : nor values (from ops (at + j) (k - j)) ≡ nor values (from ops (at + (j + 1)) (k - (j + 1))) =
-        rw (from-turn ops at k j h, eq-eqb (getD values (getD ops (at + j) 0) 0) 0 y) in
+        rw (from-turn ops at k j (omega arith), eq-eqb (getD values (getD ops (at + j) 0) 0) 0 y) in
         sym z ∙ w .same;
   }
 
-  pub norring-stop : (o v : ℕ) → j < k → o ≡ getD ops (at + j) 0 → v ≡ getD values o 0 → (v ≡ 0 → ⊥) → 0 ≡ nor values (from ops at k)
+  pub norring-stop : (o v : ℕ) → j + 1 ≤ k → o ≡ getD ops (at + j) 0 → v ≡ getD values o 0 → (v ≡ 0 → ⊥) → 0 ≡ nor values (from ops at k)
   unfolding nor pick
   norring-stop o v h e f g =
       let z : nor values (from ops (at + j) (k - j)) ≡ 0 =
-      rw (from-turn ops at k j h, ne-eqb (getD values (getD ops (at + j) 0) 0) 0 (λ y. g (f ∙ ap (λ x. getD values x 0) e ∙ y))) in
+      rw (from-turn ops at k j (omega arith), ne-eqb (getD values (getD ops (at + j) 0) 0) 0 (λ y. g (f ∙ ap (λ x. getD values x 0) e ∙ y))) in
       sym z ∙ w .same
 
-  pub norring-end : k ≤ j → 1 ≡ nor values (from ops at k)
+  pub norring-end : k < j + 1 → 1 ≡ nor values (from ops at k)
   unfolding nor
-  norring-end h = let z : nor values (from ops (at + j) (k - j)) ≡ 1 = rw (from-end ops at k j h) in sym z ∙ w .same
+  norring-end h = let z : nor values (from ops (at + j) (k - j)) ≡ 1 = rw (from-end ops at k j (omega arith)) in sym z ∙ w .same
 
 -- two tables that agree on the operands
 nor-agree : (a b os : List ℕ) → ((o : ℕ) → mem o os ≡ true → getD a o 0 ≡ getD b o 0) → nor a os ≡ nor b os

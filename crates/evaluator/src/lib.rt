@@ -2,7 +2,7 @@
 ghost use mathlib.Core.Path.{_≡_};
 ghost use Prim.Native.Nat.{_+_, _≤_};
 ghost use mathlib.Core.List.{map};
-ghost use lib.ListN.{length, getD, take};
+ghost use lib.ListN.{length, take};
 ghost use lib.Seq.{sets};
 ghost use Rattle.rules.specs.Values.{nor, table, areBits};
 ghost use Rattle.rules.specs.Calls.{evaluateOutcome};
@@ -56,7 +56,7 @@ fn nor_of(values: &[u8], ops: &[u16], at: usize, k: usize) -> u8
     ensures { λ r. ⌜ r ≡ nor (now (values .entry)) (from (now (ops .entry)) at k) ⌝ }
 {
     let mut j = 0;
-    while j < k {
+    while j + 1 <= k {
         if at8(values, at16(ops, at + j) as usize) != 0 {
             return 0;
         }

@@ -2,8 +2,8 @@
 use Prim.Native.Nat.{ℕ, zero, suc, _+_, _-_, _*_, _<_, _≤_, min}
 use native.Mathlib.Omega.{arith}
 use native.Mathlib.Numerals.{add-one}
-use mathlib.Core.Path.{_≡_, refl, sym, ap, _∙_, subst}
-use mathlib.Core.Bool.{Bool, true, false, _&&_, _||_}
+use mathlib.Core.Path.{_≡_, refl, sym, ap, _∙_}
+use mathlib.Core.Bool.{Bool, true, false, _||_}
 use mathlib.Core.List.{List, [], _∷_, _++_}
 use lib.Dec.{eqb}
 use lib.ListN.{getD, length, set, length-set}
@@ -12,7 +12,7 @@ use Rattle.rules.specs.Basics.{pick, any, mem, repeats, sameList}
 use Rattle.rules.specs.Netlist.{twins}
 use Rattle.rules.proofs.Laws.{cons-self, cons-more, sameList-eq, sameList-refl}
 use Rattle.index.specs.declared.Found.{Found}
-use Rattle.index.specs.declared.Found.the-variants.{At, Nothing}
+use Rattle.index.specs.declared.Found.the-variants.{At}
 use Rattle.index.specs.declared.Chains.{Chains}
 use Rattle.index.specs.Chains.{keyOf, chained, seek, isFound, againIn, twiceIn}
 use Rattle.index.proofs.Keys.{key-same}

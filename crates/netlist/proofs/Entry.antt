@@ -1,52 +1,64 @@
 -- The library's own entry points: the lines, then a line too many, then 6, then 7.
-use Prim.Native.Nat.{ℕ, zero, suc, _+_, _<_, _≤_}
+use Prim.Native.Nat.{ℕ}
 use native.Mathlib.Omega.{arith}
-use mathlib.Core.Path.{_≡_, refl, sym, ap, _∙_, subst}
-use mathlib.Core.Bool.{Bool, true, false, not}
-use mathlib.Core.List.{List, [], _∷_}
+use mathlib.Core.Path.{_≡_, refl, sym, _∙_}
+use mathlib.Core.Bool.{Bool, true, false, not, _||_}
+use mathlib.Core.List.{List}
 use lib.Dec.{eqb}
-use lib.ListN.{length, drop}
+use lib.ListN.{drop}
 use borrow.Author.Tests.{eq-eqb, ne-eqb}
 use Rattle.rules.specs.declared.Refusal.{Refusal}
 use Rattle.rules.specs.declared.Answer.{Answer}
 use Rattle.rules.specs.declared.Answer.the-variants.{Given, Refused}
 use Rattle.rules.specs.Basics.{pick, repeats}
 use Rattle.rules.specs.Form.{form01}
-use Rattle.rules.specs.Refusals.{Res, good, refused, refuse, _>>=_, _>>_, require}
-use Rattle.rules.specs.Lines.{nothing}
+use Rattle.rules.specs.Refusals.{Res, good, refused, _>>=_, _>>_, require}
 use Rattle.rules.specs.Netlist as rules
 use Rattle.rules.specs.Netlist.{Part, netlistLines, netlistOf, wellFormed, allUsed, twins}
 use Rattle.lines.specs.Line.{endsAt}
 use Rattle.lines.proofs.Meaning.{ends-good, ends-refused}
 use Rattle.netlist.specs.declared.Netlist.{Netlist}
 use Rattle.netlist.specs.declared.Reading.{Reading}
-use Rattle.netlist.specs.Flat.{from, gatesIn, netlistIn, partOf, readingOf, frontOf, formedOf, Judged}
+use Rattle.netlist.specs.Flat.{from, gatesIn, netlistIn, partOf, readingOf, frontOf, anyTwins, firstOf, formedOf, Judged}
 use Rattle.netlist.specs.Steps.{refusalIn}
 use Rattle.netlist.proofs.Numbered.{numbered-end}
 
 -- ---- 6, then 7
 
-module _ (n : Netlist) where
-  abbrev N : rules.Netlist
-  N = netlistIn n
+module _ (u t : Bool) where
+  pub first-unused : u ≡ false → record { number = 6 } ≡ firstOf u t
+  unfolding firstOf pick
+  first-unused e = rw e
 
-  pub unused : allUsed N ≡ false → formedOf (record { number = 6 }) N ≡ wellFormed N
-  unfolding formedOf wellFormed pick _>>_ require
-  unused e = rw e
+  module _ (e : u ≡ true) where
+    pub first-twins : t ≡ true → record { number = 7 } ≡ firstOf u t
+    unfolding firstOf pick
+    first-twins f = rw (e, f)
 
-  module _ (u : allUsed N ≡ true) where
-    pub twin-gates : twins (gatesIn (n .ops) (n .counts) (n .gates)) ≡ true → formedOf (record { number = 7 }) N ≡ wellFormed N
-    unfolding formedOf wellFormed pick _>>_ require netlistIn
-    twin-gates e = rw (u, e)
+    pub first-none : t ≡ false → record { number = 0 } ≡ firstOf u t
+    unfolding firstOf pick
+    first-none f = rw (e, f)
 
-    module _ (t : twins (gatesIn (n .ops) (n .counts) (n .gates)) ≡ false) where
-      pub twin-outputs : repeats (from (n .outs) 0 (n .outputs)) ≡ true → formedOf (record { number = 7 }) N ≡ wellFormed N
-      unfolding formedOf wellFormed pick _>>_ require netlistIn
-      twin-outputs e = rw (u, t, e)
+module _ (n : Netlist) (t : Bool) (e : t ≡ twins (gatesIn (n .ops) (n .counts) (n .gates))) where
+  pub gates-alike : t ≡ true → true ≡ anyTwins (netlistIn n)
+  unfolding anyTwins netlistIn
+  gates-alike f = rw (sym e ∙ f)
 
-      pub formed : repeats (from (n .outs) 0 (n .outputs)) ≡ false → formedOf (record { number = 0 }) N ≡ wellFormed N
-      unfolding formedOf wellFormed pick _>>_ require netlistIn
-      formed e = rw (u, t, e)
+  pub outputs-alike : t ≡ false → (o : Bool) → o ≡ repeats (from (n .outs) 0 (n .outputs)) → o ≡ anyTwins (netlistIn n)
+  unfolding anyTwins netlistIn
+  outputs-alike f o g = rw (sym e ∙ f) g
+
+-- the tests as the code found them say what document 01 says
+pub formed : (n : Netlist) (u t : Bool) (r : Refusal) → u ≡ allUsed (netlistIn n) → t ≡ anyTwins (netlistIn n) → r ≡ firstOf u t
+    → formedOf r (netlistIn n) ≡ wellFormed (netlistIn n)
+unfolding formedOf firstOf wellFormed anyTwins
+formed n u t r e f h = rw (h, e, f) (go (netlistIn n) (allUsed (netlistIn n)) (twins (netlistIn n .gates)) (repeats (netlistIn n .outputs)))
+  where
+    go : (N : rules.Netlist) (u t o : Bool) → formedOf (firstOf u (t || o)) N ≡ (require u 6 >> (require (not t) 7 >> (require (not o) 7 >> good N)))
+    go N true true o = refl
+    go N true false true = refl
+    go N true false false = refl
+    go N false t o = refl
 
 -- ---- after the lines
 

@@ -1,15 +1,14 @@
 -- The gate with an operand list is found by the list's key.
-use Prim.Native.Nat.{ℕ, zero, suc, _+_, _-_, _*_, _<_, _≤_, min}
+use Prim.Native.Nat.{ℕ, zero, suc, _+_, _-_, _<_, _≤_, min}
 use native.Mathlib.Omega.{arith}
-use mathlib.Core.Path.{_≡_, refl, sym, ap, _∙_, subst}
-use mathlib.Core.Bool.{Bool, true, false, _&&_, _||_}
+use mathlib.Core.Path.{_≡_, refl, sym, ap, _∙_}
+use mathlib.Core.Bool.{Bool, true, false}
 use mathlib.Core.List.{List, [], _∷_, _++_}
 use mathlib.Core.Option.{Option, none, some}
 use lib.Dec.{eqb}
 use lib.ListN.{getD, length}
-use borrow.Author.Tests.{eq-eqb, ne-eqb, eqb-true, eqb-false}
-use Rattle.index.specs.declared.Found.{Found}
-use Rattle.index.specs.declared.Found.the-variants.{At, Nothing}
+use borrow.Author.Tests.{eqb-true, eqb-false}
+use Rattle.index.specs.declared.Found.the-variants.{At}
 use Rattle.index.specs.Chains.{keyOf, chained, foundIn, seek}
 use Rattle.index.proofs.Keys.{key-same}
 use Rattle.index.proofs.Seeking.{found-chained}

@@ -1,22 +1,20 @@
 -- A reading without a refusal: its netlist is well, and so are its flat arrays.
-use Prim.Native.Nat.{ℕ, zero, suc, _+_, _-_, _*_, _<_, _≤_}
+use Prim.Native.Nat.{ℕ, _+_, _*_, _<_}
 use native.Mathlib.Omega.{arith}
-use mathlib.Core.Path.{_≡_, refl, sym, ap, _∙_, subst}
-use mathlib.Core.Bool.{Bool, true, false}
-use mathlib.Core.List.{List, [], _∷_, _++_}
-use lib.Dec.{eqb}
+use mathlib.Core.Path.{_≡_, sym, _∙_}
+use mathlib.Core.Bool.{true}
+use mathlib.Core.List.{List, []}
 use lib.ListN.{getD, length, drop}
 use borrow.Author.Tests.{eq-eqb}
 use Rattle.rules.specs.Basics.{pick, mem}
 use Rattle.rules.specs.Form.{form01}
-use Rattle.rules.specs.Refusals.{Res, good, refused}
-use Rattle.rules.specs.Netlist as rules
-use Rattle.rules.specs.Netlist.{Part, netlistLines, netlistOf}
+use Rattle.rules.specs.Refusals.{good}
+use Rattle.rules.specs.Netlist.{netlistLines, netlistOf}
 use Rattle.netlist.specs.declared.Netlist.{Netlist}
 use Rattle.netlist.specs.declared.Reading.{Reading}
 use Rattle.netlist.specs.Flat.{from, gateIn, gatesIn, netlistIn, readingOf, partOf, frontOf}
 use Rattle.netlist.specs.Well.{Well, WellLines, WellFlat}
-use Rattle.netlist.proofs.Arrays.{length-from, getD-from, mem-from, length-gate, length-gates, getD-gates}
+use Rattle.netlist.proofs.Arrays.{length-from, mem-from, length-gate, length-gates, getD-gates}
 use Rattle.netlist.proofs.Well.{well-lines, well, well-front, lines-of}
 
 module _ (n : Netlist) (w : WellLines (netlistIn n)) where

@@ -1,30 +1,26 @@
 -- The line of a netlist's head: its kind, its length, then its numbers.
-use Prim.Native.Nat.{ℕ, zero, suc, _+_, _-_, _*_, _/_, _%_, _<_, _≤_}
+use Prim.Native.Nat.{ℕ, zero, suc, _-_, _/_, _≤_}
 use native.Mathlib.Omega.{arith}
-use mathlib.Core.Path.{_≡_, refl, sym, ap, _∙_, subst}
-use mathlib.Core.Bool.{Bool, true, false, _&&_}
-use mathlib.Core.List.{List, [], _∷_, _++_}
-use mathlib.Core.Option.{Option, none, some}
-use lib.Dec.{eqb, ltb, leb}
-use lib.ListN.{getD, length, drop}
-use borrow.Author.Tests.{eq-eqb, ne-eqb, leb-true, le-leb, lt-leb, lt-ltb, le-ltb}
+use mathlib.Core.Path.{_≡_, refl, sym, _∙_}
+use mathlib.Core.Bool.{Bool, true, false}
+use mathlib.Core.List.{List, [], _∷_}
+use mathlib.Core.Option.{none}
+use lib.Dec.{leb}
+use lib.ListN.{length, drop}
+use borrow.Author.Tests.{eq-eqb, ne-eqb, leb-true}
 use Rattle.rules.specs.declared.Refusal.{Refusal}
-use Rattle.rules.specs.declared.Answer.{Answer}
-use Rattle.rules.specs.declared.Answer.the-variants.{Given, Refused}
-use Rattle.rules.specs.Basics.{pick, within, all, ascending}
+use Rattle.rules.specs.declared.Answer.the-variants.{Refused}
+use Rattle.rules.specs.Basics.{pick, within}
 use Rattle.rules.specs.Form.{form01, one, two}
-use Rattle.rules.specs.Refusals.{Res, good, refused, refuse, _>>=_, _>>_, require, orRefuse}
-use Rattle.rules.specs.Lines.{line, numbers, fields, also}
-use Rattle.rules.specs.Netlist.{Part, due, headOf, gateOf, outputOf}
+use Rattle.rules.specs.Refusals.{good, refuse, _>>=_, _>>_, require, orRefuse}
+use Rattle.rules.specs.Lines.{fields, also}
+use Rattle.rules.specs.Netlist.{due, headOf}
 use Rattle.rules.proofs.Laws.{no-way, and-true}
-use Rattle.lines.specs.declared.Line.{Line}
 use Rattle.lines.specs.declared.Line.the-variants as lines
-use Rattle.lines.specs.Line.{byteAt, wordAt, bytesFrom, wordsFrom, lineAt, refusalOf}
-use Rattle.lines.proofs.Laws.{word-small}
-use Rattle.lines.proofs.Meaning.{Fits, frame-fits, line-is, line-not, words-are, words-odd}
-use Rattle.netlist.specs.declared.line.Head.{Head}
+use Rattle.lines.specs.Line.{byteAt, wordAt, bytesFrom, lineAt}
+use Rattle.lines.proofs.Meaning.{frame-fits}
 use Rattle.netlist.specs.declared.line.Head.the-variants as head
-use Rattle.netlist.specs.Steps.{lineBy, headMeant, headNumbers, HeadFits, HeadRead, operandsIn, operandsMeant, OperandsFit, OperandsRead, outputMeant, OutputFits, OutputRead}
+use Rattle.netlist.specs.Steps.{headMeant, headNumbers, HeadFits, HeadRead}
 use Rattle.netlist.proofs.OneLine.{by-line, by-none, half}
 
 no-head : {r : Refusal} {i g o : ℕ} → head.Refused r ≡ head.Of i g o → ⊥

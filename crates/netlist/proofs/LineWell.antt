@@ -1,26 +1,20 @@
 -- What a good line says: its numbers within the limits, operands lower and ascending, an output a gate; and so each line of a row of lines.
-use Prim.Native.Nat.{ℕ, zero, suc, _+_, _-_, _*_, _<_, _≤_}
+use Prim.Native.Nat.{ℕ, zero, suc, _+_, _<_, _≤_}
 use native.Mathlib.Omega.{arith}
-use native.Mathlib.Numerals.{add-one}
 use native.Mathlib.Decide.{decLt}
-use mathlib.Core.Path.{_≡_, refl, sym, ap, _∙_, subst}
-use mathlib.Core.Bool.{Bool, true, false, _&&_, not}
+use mathlib.Core.Path.{_≡_, ap, subst}
+use mathlib.Core.Bool.{Bool, true, _&&_}
 use mathlib.Core.List.{List, [], _∷_, _++_}
-use mathlib.Core.Option.{Option, none, some}
-use lib.Dec.{eqb, ltb, leb}
-use lib.ListN.{getD, length, length-append, List·getD-append, List·getD-eq-default}
+use lib.Dec.{ltb, leb}
+use lib.ListN.{getD, length, length-append, List·getD-append}
 use lib.Seq.{getD-append-seam}
-use borrow.Author.Tests.{ltb-true, leb-true, eqb-true, eq-eqb}
-use Rattle.rules.specs.Basics.{pick, within, all, mem, ascending, repeats}
+use borrow.Author.Tests.{ltb-true, leb-true}
+use Rattle.rules.specs.Basics.{within, all, ascending}
 use Rattle.rules.specs.Form.{form01, one, two}
-use Rattle.rules.specs.Refusals.{Res, good, refused, _>>=_, _>>_, require, orRefuse}
-use Rattle.rules.specs.Lines.{line, nothing, numbers, fields}
-use Rattle.rules.specs.Netlist as rules
-use Rattle.rules.specs.Netlist.{Part, due, Head, headOf, gateOf, outputOf, lines, netlistLines, netlistOf, wellFormed, allUsed, twins}
-use Rattle.rules.proofs.Laws.{no-way, and-true, bind-good, then-good, require-good, orRefuse-good, mem-nil, cons-cases}
-use Rattle.netlist.specs.Flat.{frontOf}
-use Rattle.netlist.specs.Well.{Well, WellLines, WellFlat}
-use Rattle.netlist.proofs.Arrays.{mem-getD}
+use Rattle.rules.specs.Refusals.{Res, good, _>>=_, _>>_, require, orRefuse}
+use Rattle.rules.specs.Lines.{line, numbers, fields}
+use Rattle.rules.specs.Netlist.{Part, due, Head, headOf, gateOf, outputOf, lines}
+use Rattle.rules.proofs.Laws.{and-true, bind-good, require-good}
 
 -- ---- one line
 

@@ -1,11 +1,11 @@
 -- The line of one gate: its operands, then 4, then 5.
-use Prim.Native.Nat.{ℕ, zero, suc, _+_, _-_, _*_, _<_, _≤_}
+use Prim.Native.Nat.{ℕ, _+_, _*_, _<_, _≤_}
 use native.Mathlib.Omega.{arith}
-use mathlib.Core.Path.{_≡_, refl, sym, ap, _∙_, subst}
-use mathlib.Core.Bool.{Bool, true, false, _&&_}
-use mathlib.Core.List.{List, [], _∷_, _++_}
+use mathlib.Core.Path.{_≡_, refl, sym, _∙_, subst}
+use mathlib.Core.Bool.{Bool, true, false}
+use mathlib.Core.List.{List}
 use mathlib.Core.Option.{Option, none, some}
-use lib.Dec.{eqb, ltb, leb}
+use lib.Dec.{ltb}
 use lib.ListN.{getD, length, drop}
 use lib.Seq.{sets, length-sets}
 use Rattle.rules.specs.declared.Refusal.{Refusal}
@@ -13,10 +13,9 @@ use Rattle.rules.specs.declared.Answer.{Answer}
 use Rattle.rules.specs.declared.Answer.the-variants.{Given, Refused}
 use Rattle.rules.specs.Basics.{within, all, ascending}
 use Rattle.rules.specs.Form.{form01, two}
-use Rattle.rules.specs.Refusals.{Res, good, refused, refuse, _>>=_, _>>_, require, orRefuse}
+use Rattle.rules.specs.Refusals.{Res, good, refused, _>>=_, _>>_, require, orRefuse}
 use Rattle.rules.specs.Lines.{Line, line, numbers}
 use Rattle.rules.specs.Netlist.{Part, due, gateOf}
-use Rattle.rules.proofs.Laws.{no-way}
 use Rattle.lines.specs.Line.{wordsFrom}
 use Rattle.netlist.specs.Flat.{from}
 use Rattle.netlist.specs.Steps.{lineBy, operandsIn, operandsMeant, OperandsFit, OperandsRead, gateMeant, GateRead}

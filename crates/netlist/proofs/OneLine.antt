@@ -2,29 +2,22 @@
 use Prim.Native.Nat.{ℕ, zero, suc, _+_, _-_, _*_, _/_, _%_, _<_, _≤_}
 use native.Mathlib.Omega.{arith}
 use mathlib.Core.Path.{_≡_, refl, sym, ap, _∙_, subst}
-use mathlib.Core.Bool.{Bool, true, false, _&&_}
-use mathlib.Core.List.{List, [], _∷_, _++_}
-use mathlib.Core.Option.{Option, none, some}
-use lib.Dec.{eqb, ltb, leb}
-use lib.ListN.{getD, length, drop}
-use borrow.Author.Tests.{eq-eqb, ne-eqb, leb-true, le-leb, lt-leb, lt-ltb, le-ltb}
+use mathlib.Core.List.{List}
+use lib.ListN.{length, drop}
+use borrow.Author.Tests.{eq-eqb, ne-eqb, le-leb, lt-leb}
 use Rattle.rules.specs.declared.Refusal.{Refusal}
-use Rattle.rules.specs.declared.Answer.{Answer}
 use Rattle.rules.specs.declared.Answer.the-variants.{Given, Refused}
-use Rattle.rules.specs.Basics.{pick, within, all, ascending}
-use Rattle.rules.specs.Form.{form01, one, two}
+use Rattle.rules.specs.Basics.{pick, within}
+use Rattle.rules.specs.Form.{form01}
 use Rattle.rules.specs.Refusals.{Res, good, refused, refuse, _>>=_, _>>_, require, orRefuse}
-use Rattle.rules.specs.Lines.{line, numbers, fields, also}
-use Rattle.rules.specs.Netlist.{Part, due, headOf, gateOf, outputOf}
-use Rattle.rules.proofs.Laws.{no-way, and-true}
+use Rattle.rules.specs.Netlist.{due}
+use Rattle.rules.proofs.Laws.{no-way}
 use Rattle.lines.specs.declared.Line.{Line}
 use Rattle.lines.specs.declared.Line.the-variants as lines
 use Rattle.lines.specs.Line.{byteAt, wordAt, bytesFrom, wordsFrom, lineAt, refusalOf}
 use Rattle.lines.proofs.Laws.{word-small}
-use Rattle.lines.proofs.Meaning.{Fits, frame-fits, line-is, line-not, words-are, words-odd}
-use Rattle.netlist.specs.declared.line.Head.{Head}
-use Rattle.netlist.specs.declared.line.Head.the-variants as head
-use Rattle.netlist.specs.Steps.{lineBy, headMeant, headNumbers, HeadFits, HeadRead, operandsIn, operandsMeant, OperandsFit, OperandsRead, outputMeant, OutputFits, OutputRead}
+use Rattle.lines.proofs.Meaning.{frame-fits, line-is, line-not, words-are, words-odd}
+use Rattle.netlist.specs.Steps.{lineBy, operandsIn, operandsMeant, OperandsFit, OperandsRead}
 
 -- ---- a line by a rule
 

@@ -1,25 +1,23 @@
 -- What callers may rely on: a netlist that was read is well.
-use Prim.Native.Nat.{ℕ, zero, suc, _+_, _-_, _*_, _<_, _≤_}
+use Prim.Native.Nat.{ℕ, _+_, _<_, _≤_}
 use native.Mathlib.Omega.{arith}
-use native.Mathlib.Numerals.{add-one}
 use native.Mathlib.Decide.{decLt}
-use mathlib.Core.Path.{_≡_, refl, sym, ap, _∙_, subst}
-use mathlib.Core.Bool.{Bool, true, false, _&&_, not}
-use mathlib.Core.List.{List, [], _∷_, _++_}
-use mathlib.Core.Option.{Option, none, some}
-use lib.Dec.{eqb, ltb, leb}
-use lib.ListN.{getD, length, length-append, List·getD-append, List·getD-eq-default}
-use lib.Seq.{getD-append-seam}
-use borrow.Author.Tests.{ltb-true, leb-true, eqb-true, eq-eqb}
-use Rattle.rules.specs.Basics.{pick, within, all, mem, ascending, repeats}
-use Rattle.rules.specs.Form.{form01, one, two}
-use Rattle.rules.specs.Refusals.{Res, good, refused, _>>=_, _>>_, require, orRefuse}
-use Rattle.rules.specs.Lines.{line, nothing, numbers, fields}
+use mathlib.Core.Path.{_≡_, refl, ap, _∙_, subst}
+use mathlib.Core.Bool.{Bool, true, false, not}
+use mathlib.Core.List.{List, [], _∷_}
+use mathlib.Core.Option.{some}
+use lib.Dec.{ltb}
+use lib.ListN.{getD, length, List·getD-eq-default}
+use borrow.Author.Tests.{ltb-true}
+use Rattle.rules.specs.Basics.{all, mem, ascending, repeats}
+use Rattle.rules.specs.Form.{form01}
+use Rattle.rules.specs.Refusals.{Res, good, _>>=_, _>>_, require}
+use Rattle.rules.specs.Lines.{line, nothing}
 use Rattle.rules.specs.Netlist as rules
-use Rattle.rules.specs.Netlist.{Part, due, Head, headOf, gateOf, outputOf, lines, netlistLines, netlistOf, wellFormed, allUsed, twins}
-use Rattle.rules.proofs.Laws.{no-way, and-true, bind-good, then-good, require-good, orRefuse-good, mem-nil, cons-cases}
+use Rattle.rules.specs.Netlist.{Part, Head, headOf, gateOf, outputOf, lines, netlistLines, netlistOf, wellFormed, allUsed, twins}
+use Rattle.rules.proofs.Laws.{and-true, bind-good, then-good, require-good, mem-nil, cons-cases}
 use Rattle.netlist.specs.Flat.{frontOf}
-use Rattle.netlist.specs.Well.{Well, WellLines, WellFlat}
+use Rattle.netlist.specs.Well.{Well, WellLines}
 use Rattle.netlist.proofs.Arrays.{mem-getD}
 use Rattle.netlist.proofs.LineWell.{GateWell, gate-well, HeadWell, head-well, OutputWell, output-well, Each, lines-each}
 
@@ -96,7 +94,10 @@ well-lines text p e =
     let z : record { got = record { inputs = h .inputs; gates = gs .got; outputs = os .got }; tail = os .tail } ≡ p = let y = d .2 in cc in
     let g = lines-each (gateOf form01) GateWell [] gate-well (h .gates) (h .inputs) (h .inputs) [] (a .0 .rest) gs (omega arith) (λ j u. absurd (omega arith)) (c .1) in
     let o = lines-each (λ _. outputOf form01 h) (λ _. OutputWell h) 0 (λ _. output-well h) (h .outputs) 0 0 [] (gs .tail) os (omega arith) (λ j u. absurd (omega arith)) (d .1) in
-    subst (λ q. WellLines (q .got)) z (read-well h gs os (head-well (a .0 .bytes) h (b .1)) (g .0) (omega (arith, g .1)) (o .0) (omega (arith, o .1)))
+    carry (record { got = record { inputs = h .inputs; gates = gs .got; outputs = os .got }; tail = os .tail }) p z (read-well h gs os (head-well (a .0 .bytes) h (b .1)) (g .0) (omega (arith, g .1)) (o .0) (omega (arith, o .1)))
+  where
+    carry : (q p : Part rules.Netlist) → q ≡ p → WellLines (q .got) → WellLines (p .got)
+    carry q p z w = subst (λ x. WellLines (x .got)) z w
 
 not-so : (t : Bool) → not t ≡ true → t ≡ false
 not-so true e = cc

@@ -2,15 +2,16 @@
 -- Assumes nothing.
 use Prim.Native.Nat.{ℕ, zero, suc, _+_, _*_}
 use mathlib.Core.Path.{_≡_}
+use mathlib.Core.Bool.{Bool, _||_}
 use mathlib.Core.List.{List, [], _∷_, _++_}
 use lib.Dec.{eqb}
-use lib.ListN.{getD, take, drop}
-use Rattle.rules.specs.Basics.{pick}
+use lib.ListN.{getD, drop}
+use Rattle.rules.specs.Basics.{pick, repeats}
 use Rattle.rules.specs.declared.Refusal.{Refusal}
 use Rattle.rules.specs.Form.{form01}
 use Rattle.rules.specs.Refusals.{Res, good, refused, _>>=_}
 use Rattle.rules.specs.Netlist as rules
-use Rattle.rules.specs.Netlist.{Part, netlistLines, wellFormed}
+use Rattle.rules.specs.Netlist.{Part, netlistLines, wellFormed, twins}
 use Rattle.netlist.specs.declared.Netlist.{Netlist}
 use Rattle.netlist.specs.declared.Reading.{Reading}
 
@@ -51,6 +52,16 @@ frontOf text = do
   p ← netlistLines form01 text
   N ← wellFormed (p .got)
   good (record { got = N; tail = p .tail })
+
+-- twin gates or twin outputs
+unfoldable pub anyTwins : rules.Netlist → Bool
+unfolding twins repeats
+anyTwins N = twins (N .gates) || repeats (N .outputs)
+
+-- 6 goes before 7; number 0 where there is none
+unfoldable pub firstOf : Bool → Bool → Refusal
+unfolding pick
+firstOf used twin = pick used (pick twin (record { number = 7 }) (record { number = 0 })) (record { number = 6 })
 
 -- what the refusal of a netlist says, number 0 where there is none
 unfoldable pub formedOf : Refusal → rules.Netlist → Res rules.Netlist

@@ -1,7 +1,7 @@
 -- Signals marked in an array: what 6 and the outputs' part of 7 are found by.
 -- Assumes nothing.
-use Prim.Native.Nat.{ℕ, zero, suc, _+_}
-use mathlib.Core.Bool.{Bool, true, false}
+use Prim.Native.Nat.{ℕ}
+use mathlib.Core.Bool.{Bool}
 use mathlib.Core.List.{List, [], _∷_}
 use lib.Dec.{eqb}
 use lib.ListN.{getD, replicate}

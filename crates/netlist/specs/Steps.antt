@@ -1,16 +1,15 @@
 -- What the steps of the reader answer, in terms of document 01's rules for lines.
 -- Assumes nothing.
-use Prim.Native.Nat.{ℕ, zero, suc, _+_, _*_, _<_, _≤_}
+use Prim.Native.Nat.{ℕ, _+_, _*_, _<_, _≤_}
 use mathlib.Core.Path.{_≡_}
-use mathlib.Core.Bool.{Bool, true, false}
-use mathlib.Core.List.{List, [], _∷_, _++_}
+use mathlib.Core.List.{List, []}
 use lib.ListN.{getD, length, drop}
 use Rattle.rules.specs.declared.Refusal.{Refusal}
 use Rattle.rules.specs.declared.Answer.{Answer}
 use Rattle.rules.specs.declared.Answer.the-variants.{Given, Refused}
 use Rattle.rules.specs.Basics.{pick, within}
 use Rattle.rules.specs.Form.{form01, two}
-use Rattle.rules.specs.Refusals.{Res, good, refused, refuse, _>>=_, _>>_, require, orRefuse}
+use Rattle.rules.specs.Refusals.{Res, good, refused, _>>=_, _>>_, require, orRefuse}
 use Rattle.rules.specs.Lines.{line, numbers}
 use Rattle.rules.specs.Netlist as rules
 use Rattle.rules.specs.Netlist.{Part, due, headOf, gateOf, outputOf, lines}

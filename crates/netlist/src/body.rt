@@ -44,16 +44,16 @@ pub(crate) fn read_outputs(
     requires { ⌜ (start ≤ length (now text)) × (inputs ≤ 64) × (gates ≤ 512) × (outputs ≤ 64) × (length (now outs) ≡ 64) ⌝ }
     ensures { λ r. ⌜ OutputsRead (now (text .entry)) start inputs gates outputs (now (outs .exit)) r ⌝ }
 {
-    let mut at = start;
+    let mut place = start;
     let mut k = 0;
     while k < outputs {
-        let a = line::read_output(text, at, inputs, gates);
+        let a = line::read_output(text, place, inputs, gates);
         let Answer::Given(s) = a else {
             return a;
         };
         outs[k] = s as u16;
-        at += 7;
+        place += 7;
         k += 1;
     }
-    Answer::Given(at)
+    Answer::Given(place)
 }

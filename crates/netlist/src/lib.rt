@@ -4,7 +4,7 @@ ghost use lib.ListN.{length};
 ghost use Rattle.rules.specs.Form.{form01};
 ghost use Rattle.rules.specs.Netlist.{netlistLines, netlistOf, wellFormed};
 ghost use Rattle.rules.specs.Calls.{tailOutcome};
-ghost use Rattle.netlist.specs.Flat.{netlistIn, partOf, readingOf, formedOf, frontOf, Judged};
+ghost use Rattle.netlist.specs.Flat.{netlistIn, partOf, readingOf, firstOf, formedOf, frontOf, Judged};
 ghost use Rattle.netlist.specs.Steps.{refusalIn};
 ghost use Rattle.netlist.specs.Well.{WellFlat};
 use line::Head;
@@ -132,21 +132,25 @@ pub fn tail(text: &[u8]) -> &[u8]
     slices::rest8(text, r.tail)
 }
 
-// 6, then 7; number 0 where there is none.
+// 6 goes before 7; number 0 where there is none.
+fn first_of(used: bool, twins: bool) -> Refusal
+    ensures { λ r. ⌜ r ≡ firstOf used twins ⌝ }
+{
+    if !used {
+        return Refusal { number: 6 };
+    }
+    if twins {
+        return Refusal { number: 7 };
+    }
+    Refusal { number: 0 }
+}
+
+// The refusal of a netlist whose lines read well.
 fn well_formed(n: Netlist) -> Refusal
     requires { ⌜ WellFlat n ⌝ }
     ensures { λ r. ⌜ formedOf r (netlistIn n) ≡ wellFormed (netlistIn n) ⌝ }
 {
-    if !used::all_used(n) {
-        return Refusal { number: 6 };
-    }
-    if twins::twin_gates(n) {
-        return Refusal { number: 7 };
-    }
-    if twins::twin_outputs(n) {
-        return Refusal { number: 7 };
-    }
-    Refusal { number: 0 }
+    first_of(used::all_used(n), twins::any_twins(n))
 }
 
 // A reading of lines, with 6 and 7 asked of its netlist.

@@ -2,7 +2,7 @@
 ghost use mathlib.Core.Path.{_≡_};
 ghost use Rattle.rules.specs.Basics.{repeats};
 ghost use Rattle.rules.specs.Netlist.{twins};
-ghost use Rattle.netlist.specs.Flat.{from, gatesIn};
+ghost use Rattle.netlist.specs.Flat.{from, gatesIn, netlistIn, anyTwins};
 ghost use Rattle.netlist.specs.Well.{WellFlat};
 use crate::Netlist;
 use crate::keys::gate_keys;
@@ -12,7 +12,7 @@ use slices::at16;
 use slices::put8;
 
 // Whether two gates have the same operand list.
-pub(crate) fn twin_gates(n: Netlist) -> bool
+fn twin_gates(n: Netlist) -> bool
     requires { ⌜ WellFlat n ⌝ }
     ensures { λ r. ⌜ r ≡ twins (gatesIn (n .ops) (n .counts) (n .gates)) ⌝ }
 {
@@ -24,7 +24,7 @@ pub(crate) fn twin_gates(n: Netlist) -> bool
 }
 
 // Whether an output stands twice.
-pub(crate) fn twin_outputs(n: Netlist) -> bool
+fn twin_outputs(n: Netlist) -> bool
     requires { ⌜ WellFlat n ⌝ }
     ensures { λ r. ⌜ r ≡ repeats (from (n .outs) 0 (n .outputs)) ⌝ }
 {
@@ -41,4 +41,14 @@ pub(crate) fn twin_outputs(n: Netlist) -> bool
         k += 1;
     }
     false
+}
+
+pub(crate) fn any_twins(n: Netlist) -> bool
+    requires { ⌜ WellFlat n ⌝ }
+    ensures { λ r. ⌜ r ≡ anyTwins (netlistIn n) ⌝ }
+{
+    if twin_gates(n) {
+        return true;
+    }
+    twin_outputs(n)
 }

@@ -1,5 +1,4 @@
-use native.Mathlib.Omega.{arith}
-use mathlib.Core.Path.{sym, _∙_, ap}
+use mathlib.Core.Path.{sym, _∙_}
 use borrow.Author.Tests.{not-true, not-false}
 use Rattle.netlist.proofs.FlatWell.{read-flat}
 use Rattle.evaluator.proofs.Ends.{not-read, not-bits, no-room, handed, values-long}

@@ -1,5 +1,4 @@
 use Prim.Native.Nat.{_-_}
-use native.Mathlib.Omega.{arith}
 use borrow.Author.Needs.{needs}
 use Rattle.evaluator.proofs.Handed.{Handing, handing-start, handing-turn, handing-end}
 use Rattle.evaluator.proofs.hand_out.Statement.{statement}

@@ -19,6 +19,10 @@ abbrev μ-loop : tie.MeasureT-loop
 loop-holds : tie.Need-loop-holds Inv-loop μ-loop
 loop-holds c = norring-start _ _ _ _
 
+-- src/lib.rt:59:11
+add-loop : tie.Need-add-loop Inv-loop μ-loop
+add-loop c = search needs
+
 -- src/lib.rt:60:34
 add-at16 : tie.Need-add-at16 Inv-loop μ-loop
 add-at16 c = search needs
@@ -37,7 +41,7 @@ at8-requires c κs = search needs
 
 -- src/lib.rt:61:13
 returns : tie.Need-returns Inv-loop μ-loop
-returns c = norring-stop (c .before .before .before .before .loop .inv) _ _ (c .before .before .before .loop-test .taken) (c .before .before .at16 .ensures) (c .before .at8 .ensures) (c .if1 .taken)
+returns c = norring-stop (c .before .before .before .before .loop .inv) _ _ (omega (arith, c .before .before .before .loop-test .taken)) (c .before .before .at16 .ensures) (c .before .at8 .ensures) (c .if1 .taken)
 
 -- src/lib.rt:63:9
 add-j : tie.Need-add-j Inv-loop μ-loop
@@ -49,7 +53,7 @@ loop-less c = search needs
 
 -- src/lib.rt:59:5
 loop-again : tie.Need-loop-again Inv-loop μ-loop
-loop-again c = norring-turn (c .before .before .before .before .loop .inv) _ _ (c .before .before .before .loop-test .taken) (c .before .before .at16 .ensures) (c .before .at8 .ensures) (c .if1 .left)
+loop-again c = norring-turn (c .before .before .before .before .loop .inv) _ _ (omega (arith, c .before .before .before .loop-test .taken)) (c .before .before .at16 .ensures) (c .before .at8 .ensures) (c .if1 .left)
 
 -- src/lib.rt:54:1
 returns-2 : tie.Need-returns-2 Inv-loop μ-loop
@@ -62,6 +66,7 @@ nor-of-spec =
     Inv-loop
     μ-loop
     loop-holds
+    add-loop
     add-at16
     at16-requires
     cast-at8

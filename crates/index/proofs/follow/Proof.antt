@@ -1,4 +1,3 @@
-use native.Mathlib.Omega.{arith}
 use borrow.Author.Needs.{needs}
 use Rattle.index.proofs.Links.{Following, following-start, following-stop, following-here, following-turn, following-end}
 use Rattle.index.proofs.follow.Statement.{statement}

@@ -1,4 +1,3 @@
-use native.Mathlib.Omega.{arith}
 use mathlib.Core.Path.{_∙_}
 use Rattle.netlist.proofs.Whole.{no-head-read, no-gates-read, no-outputs-read, netlist-read}
 use borrow.Author.Needs.{needs}

@@ -9,10 +9,10 @@ use Rattle.netlist.proofs.body.read_outputs.Lts as lts
 use Rattle.netlist.proofs.line.read_output.Reads as read-output-reads
 
 abbrev Inv-loop : tie.InvT-loop
-Inv-loop text start inputs gates outputs outs₀ at₀ k₀ outs at k = Outputting text start inputs gates outputs outs at k
+Inv-loop text start inputs gates outputs outs₀ place₀ k₀ outs place k = Outputting text start inputs gates outputs outs place k
 
 abbrev μ-loop : tie.MeasureT-loop
-μ-loop text start inputs gates outputs outs₀ at₀ k₀ outs at k = outputs - k
+μ-loop text start inputs gates outputs outs₀ place₀ k₀ outs place k = outputs - k
 
 -- src/body.rt:49:5
 loop-holds : tie.Need-loop-holds Inv-loop μ-loop
@@ -47,8 +47,8 @@ element-write-outs : tie.Need-element-write-outs Inv-loop μ-loop
 element-write-outs c = search needs
 
 -- src/body.rt:55:9
-add-at : tie.Need-add-at Inv-loop μ-loop
-add-at c = omega (arith, c .before .before .before .before .before .before .before .good .0, c .before .before .before .read-output .ensures .fits _ (c .before .a .given .1) .inside)
+add-place : tie.Need-add-place Inv-loop μ-loop
+add-place c = omega (arith, c .before .before .before .before .before .before .before .good .0, c .before .before .before .read-output .ensures .fits _ (c .before .a .given .1) .inside)
 
 -- src/body.rt:56:9
 add-k : tie.Need-add-k Inv-loop μ-loop
@@ -80,7 +80,7 @@ read-outputs-spec =
     cast-outs
     mul-outs
     element-write-outs
-    add-at
+    add-place
     add-k
     loop-less
     loop-again

@@ -1,5 +1,4 @@
-use Prim.Native.Nat.{_-_, min}
-use native.Mathlib.Omega.{arith}
+use Prim.Native.Nat.{_-_}
 use mathlib.Core.Path.{_∙_, ap}
 use borrow.Author.Needs.{needs}
 use Rattle.netlist.specs.Keys.{keysTo, keysIn}

@@ -51,7 +51,7 @@ element-copy-out-if1-2 c = search needs
 
 -- src/line.rt:147:13
 returns : tie.Need-returns Inv-loop μ-loop
-returns c = ascend-stop (c .before .before .before .before .loop .inv) (c .before .before .before .loop-test .taken) (c .if1 .taken)
+returns c = ascend-stop (c .before .before .before .before .loop .inv) (c .before .before .before .loop-test .taken) (omega (arith, c .if1 .taken))
 
 -- src/line.rt:149:9
 add-j : tie.Need-add-j Inv-loop μ-loop

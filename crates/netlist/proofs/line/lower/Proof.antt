@@ -1,5 +1,4 @@
 use Prim.Native.Nat.{_-_}
-use native.Mathlib.Omega.{arith}
 use borrow.Author.Needs.{needs}
 use Rattle.netlist.proofs.Operands.{Lower, lower-start, lower-turn, lower-stop, lower-end}
 use Rattle.netlist.proofs.line.lower.Statement.{statement}

@@ -1,7 +1,6 @@
 use native.Mathlib.Omega.{arith}
-use mathlib.Core.Path.{sym, _∙_, subst}
+use mathlib.Core.Path.{sym, _∙_}
 use borrow.Author.Tests.{not-true, not-false}
-use Rattle.netlist.specs.Steps.{OperandsRead}
 use Rattle.netlist.proofs.OneGate.{gate-none, gate-high, gate-falls, gate-good}
 use borrow.Author.Needs.{needs}
 use Rattle.netlist.proofs.line.read_gate.Statement.{statement}

@@ -1,5 +1,4 @@
-use mathlib.Core.Path.{sym, _∙_, subst}
-use Rattle.netlist.specs.Steps.{HeadRead}
+use mathlib.Core.Path.{sym, _∙_}
 use Rattle.netlist.proofs.OneLine.{told}
 use Rattle.netlist.proofs.HeadLine.{head-none, head-kind, head-long, head-good}
 use borrow.Author.Needs.{needs}

@@ -1,5 +1,4 @@
 use Prim.Native.Nat.{_-_}
-use native.Mathlib.Omega.{arith}
 use borrow.Author.Needs.{needs}
 use Rattle.netlist.proofs.Marking.{Checking, checking-start, checking-turn, checking-stop, checking-end}
 use Rattle.netlist.proofs.used.all_marked.Statement.{statement}

@@ -1,5 +1,4 @@
 use Prim.Native.Nat.{_-_}
-use native.Mathlib.Omega.{arith}
 use borrow.Author.Needs.{needs}
 use Rattle.netlist.proofs.Marking.{Marking, marking-start, marking-turn, marking-end}
 use Rattle.netlist.proofs.used.mark.Statement.{statement}

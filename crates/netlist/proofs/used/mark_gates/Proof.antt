@@ -1,5 +1,4 @@
 use Prim.Native.Nat.{_-_}
-use native.Mathlib.Omega.{arith}
 use borrow.Author.Needs.{needs}
 use Rattle.netlist.proofs.Marking.{MarkingGates, gates-start, gates-turn, gates-long, gates-end}
 use Rattle.netlist.proofs.used.mark_gates.Statement.{statement}
