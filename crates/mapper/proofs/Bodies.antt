@@ -1,21 +1,19 @@
 -- The lines behind the head: from the plan and the run to the rule's mapping.
 -- Assumes nothing.
-use Prim.Native.Nat.{ℕ, zero, suc, _+_, _-_, _*_, _<_, _≤_}
+use Prim.Native.Nat.{ℕ, _+_, _*_, _<_, _≤_}
 use native.Mathlib.Omega.{arith}
 use native.Mathlib.Decide.{decLt}
 use mathlib.Core.Path.{_≡_, refl, sym, ap, _∙_, subst}
-use mathlib.Core.Bool.{true, false}
-use mathlib.Core.List.{List, [], _∷_, _++_, map}
-use lib.Dec.{ltb}
+use mathlib.Core.List.{List, [], _∷_, map}
 use borrow.Author.Tests.{lt-ltb, le-ltb}
 use lib.ListN.{getD, length, take, length-append, length-map, List·getD-eq-default}
 use lib.Seq.{sets}
 use Rattle.rules.specs.Basics.{pick, upto}
 use Rattle.rules.specs.Form.{form01}
 use Rattle.rules.specs.Refusals.{Res, good, refuse, _>>=_, _>>_, require}
-use Rattle.rules.specs.Sequence.{Sequence, placeText, texts}
+use Rattle.rules.specs.Sequence.{placeText, texts}
 use Rattle.rules.specs.Order.{order}
-use Rattle.rules.specs.Cells.{State, cellOf, opening}
+use Rattle.rules.specs.Cells.{State, cellOf}
 use Rattle.rules.specs.Mapping.{sequenceFrom, mappedBy, mapped}
 use Rattle.netlist.specs.declared.Netlist.{Netlist}
 use Rattle.netlist.specs.Flat.{from, netlistIn}
@@ -23,7 +21,7 @@ use Rattle.netlist.specs.Well.{WellFlat}
 use Rattle.netlist.proofs.Arrays.{length-from}
 use Rattle.order.specs.declared.Plan.{Plan}
 use Rattle.order.specs.Sort.{zeros}
-use Rattle.order.specs.Plan.{isFlat, orderIn, wantedIn, Planned}
+use Rattle.order.specs.Plan.{orderIn, wantedIn, Planned}
 use Rattle.order.proofs.Lists.{getD-sets-in, getD-sets-other}
 use Rattle.order.proofs.Orders.{zeros-blank, zeros-length, order-steps}
 use Rattle.order.proofs.Bounds.{flat-fits, well-flat}
@@ -32,7 +30,7 @@ use Rattle.mapper.specs.declared.mapping.Outcome.the-variants.{Fits, NoR
 use Rattle.mapper.specs.Text.{Written, entry}
 use Rattle.mapper.specs.Wanted.{Wanted}
 use Rattle.mapper.specs.Run.{opened, ran, Mapped, RunOf, Runnable}
-use Rattle.mapper.specs.Whole.{bodyText, Bodied, BodyOf}
+use Rattle.mapper.specs.Whole.{bodyText, Bodied}
 use Rattle.mapper.proofs.Writing.{written-join, place-length}
 use Rattle.mapper.proofs.Opens.{upto-length}
 

@@ -1,12 +1,12 @@
 -- How long the text can get: every gate writes at most one NOR line and one set line, and a cell that is set was spent before.
 -- Assumes nothing.
-use Prim.Native.Nat.{ℕ, zero, suc, _+_, _-_, _*_, _<_, _≤_}
+use Prim.Native.Nat.{ℕ, zero, suc, _+_, _*_, _≤_}
 use native.Mathlib.Omega.{arith}
 use mathlib.Core.Path.{_≡_, refl, sym, ap, _∙_}
 use mathlib.Core.Bool.{Bool, true, false}
 use mathlib.Core.List.{List, [], _∷_, _++_, map, append-nil, append-assoc}
-use lib.ListN.{getD, length, set, length-append, length-map}
-use Rattle.rules.specs.Basics.{pick, keep, setAll, upto}
+use lib.ListN.{length, set, length-append, length-map}
+use Rattle.rules.specs.Basics.{pick, keep, setAll}
 use Rattle.rules.specs.Form.{form01}
 use Rattle.rules.specs.Lines.{written}
 use Rattle.rules.specs.Sequence.{Instruction, Set, Nor, instructionText, texts}

@@ -4,9 +4,9 @@ use Prim.Native.Nat.{ℕ, zero, suc, _+_, _-_, _*_, _<_, _≤_}
 use native.Mathlib.Omega.{arith}
 use native.Mathlib.Numerals.{add-one}
 use mathlib.Core.Path.{_≡_, refl, sym, ap, _∙_}
-use mathlib.Core.Bool.{Bool, true, false, _&&_}
+use mathlib.Core.Bool.{Bool, true, false}
 use mathlib.Core.List.{List, [], _∷_, _++_, map, append-nil}
-use lib.Dec.{eqb, leb}
+use lib.Dec.{eqb}
 use borrow.Author.Count.{below-more}
 use borrow.Author.Tests.{eq-eqb, ne-eqb}
 use lib.ListN.{getD, length, take, drop, set, replicate, length-set, drop-of-length-le}
@@ -16,7 +16,7 @@ use Rattle.rules.specs.Lines.{written}
 use Rattle.netlist.specs.Flat.{from}
 use Rattle.mapper.specs.declared.cells.Cells.{Cells}
 use Rattle.mapper.specs.Text.{Written, digits, entry}
-use Rattle.mapper.specs.Held.{cellsOf, spentIn, spentDigits, renewed, NoneBelow, Fine, Short, Sought, Renewed, Roomed, atOnce, later, ones, firstHeld, firstCells, isFree, withHeld}
+use Rattle.mapper.specs.Held.{cellsOf, spentIn, spentDigits, renewed, NoneBelow, Fine, Short, Sought, Renewed, ones, firstHeld, isFree, withHeld}
 use Rattle.mapper.proofs.Writing.{Writes, writes-start, writes-part, writes-feed, written-join}
 
 -- ---- the lowest ready cell

@@ -1,20 +1,17 @@
 -- The whole text delivered, or refused, and the call.
 -- Assumes nothing.
-use Prim.Native.Nat.{ℕ, zero, suc, _+_, _-_, _*_, _/_, _%_, _<_, _≤_}
+use Prim.Native.Nat.{ℕ, _+_, _<_, _≤_}
 use native.Mathlib.Omega.{arith}
 use mathlib.Core.Path.{_≡_, refl, sym, ap, _∙_, subst}
-use mathlib.Core.Bool.{Bool, true, false, _&&_}
-use mathlib.Core.List.{List, [], _∷_, _++_, append-assoc}
-use lib.Dec.{ltb, leb, eqb}
+use mathlib.Core.List.{List, _++_}
 use borrow.Author.Tests.{lt-ltb, le-ltb, le-leb, lt-leb, ne-eqb}
-use lib.ListN.{getD, length, take, drop, length-append}
-use lib.Seq.{sets, sets-eq, take-at, length-sets}
-use Rattle.rules.specs.declared.Refusal.{Refusal}
+use lib.ListN.{length, take, drop, length-append}
+use lib.Seq.{sets, sets-eq, take-at}
 use Rattle.rules.specs.declared.Answer.the-variants.{Given, Refused}
 use Rattle.rules.specs.Basics.{pick}
-use Rattle.rules.specs.Form.{form01, one, two}
+use Rattle.rules.specs.Form.{form01}
 use Rattle.rules.specs.Lines.{written, bytesOf}
-use Rattle.rules.specs.Refusals.{Res, good, refused, refuse, _>>=_, _>>_, require}
+use Rattle.rules.specs.Refusals.{good, refused, refuse, _>>=_, _>>_, require}
 use Rattle.rules.specs.Sequence.{Sequence, headText, sequenceText}
 use Rattle.rules.specs.Netlist.{netlistOf}
 use Rattle.rules.specs.Mapping.{mapped, mappedText}

@@ -2,35 +2,32 @@
 -- Assumes nothing.
 use Prim.Native.Nat.{ℕ, zero, suc, _+_, _-_, _*_, _<_, _≤_}
 use native.Mathlib.Omega.{arith}
-use native.Mathlib.Numerals.{add-one}
 use native.Mathlib.Decide.{ℕ-discrete}
-use mathlib.Core.Path.{_≡_, refl, sym, ap, _∙_, fun-ext, subst}
+use mathlib.Core.Path.{_≡_, refl, sym, ap, _∙_, fun-ext}
 use mathlib.Core.Bool.{Bool, true, false, _||_}
 use mathlib.Core.List.{List, [], _∷_, _++_, map}
 use lib.Dec.{ltb}
 use borrow.Author.Tests.{le-ltb}
-use lib.ListN.{getD, length, take, drop, set, length-set, length-append, drop-of-length-le}
-use lib.Seq.{getD-set-same, getD-set-other, drop-cons, take-suc}
+use lib.ListN.{getD, length, set, length-set, length-append}
+use lib.Seq.{getD-set-same, getD-set-other}
 use Rattle.rules.specs.Basics.{mem, keep, setAll}
-use Rattle.rules.specs.Form.{form01}
-use Rattle.rules.specs.Refusals.{Res, good, refuse, _>>=_}
-use Rattle.rules.specs.Sequence.{Instruction, Nor, instructionText}
+use Rattle.rules.specs.Sequence.{Instruction, Nor}
 use Rattle.rules.specs.Netlist.{operandsOf}
-use Rattle.rules.specs.Cells.{Slot, blank, ready, spent, keeps, cellOf, State, released, place, executeGate, executeGates, allSpent}
-use Rattle.rules.proofs.Laws.{no-way, snoc-self, snoc-more, or-left, or-right}
+use Rattle.rules.specs.Cells.{blank, ready, spent, keeps, cellOf, State, released, place}
+use Rattle.rules.proofs.Laws.{no-way, snoc-self, snoc-more, or-right}
 use Rattle.netlist.specs.declared.Netlist.{Netlist}
-use Rattle.netlist.specs.Flat.{gateIn, gatesIn, netlistIn}
+use Rattle.netlist.specs.Flat.{gateIn, netlistIn}
 use Rattle.netlist.specs.Well.{WellFlat}
 use Rattle.mapper.specs.declared.cells.Cells.{Cells}
-use Rattle.mapper.specs.Text.{Written, entry}
-use Rattle.mapper.specs.Held.{codeOf, cellsOf, NoneBelow, isFree}
+use Rattle.mapper.specs.Text.{entry}
+use Rattle.mapper.specs.Held.{codeOf}
 use Rattle.mapper.specs.Wanted.{Wanted}
-use Rattle.mapper.specs.Run.{Executable, Executed, freed, codeText}
+use Rattle.mapper.specs.Run.{Executable, Executed, freed}
 use Rattle.netlist.proofs.Arrays.{length-from, getD-gates}
 use Rattle.mapper.proofs.Wants.{wanted-released, still-counted, wanted-after}
 use Rattle.mapper.proofs.Slots.{placed-codes, length-setAll}
-use Rattle.mapper.proofs.Keeping.{Kept, kept-cells, kept-after, set-keeps, setAll-keeps, spent-not, keeps-inj}
-use Rattle.mapper.proofs.Bounds.{Bounded, Halfway, bounded-place}
+use Rattle.mapper.proofs.Keeping.{kept-cells, kept-after, setAll-keeps, spent-not, keeps-inj}
+use Rattle.mapper.proofs.Bounds.{Bounded, bounded-place}
 use Rattle.mapper.proofs.Mirror.{Since, since-at, since-line, Mirrors, row-length}
 use Rattle.mapper.proofs.Rooms.{Roomy}
 

@@ -1,20 +1,20 @@
 -- The table of the signals' cells beside the rule's search of the slots: a kept signal's entry is its cell, any other's is 0.
 -- Assumes nothing.
-use Prim.Native.Nat.{ℕ, zero, suc, _+_, _-_, _<_, _≤_}
+use Prim.Native.Nat.{ℕ, zero, suc, _+_, _<_}
 use native.Mathlib.Omega.{arith}
 use native.Mathlib.Decide.{ℕ-discrete, decLt}
 use mathlib.Core.Path.{_≡_, refl, sym, ap, _∙_}
 use mathlib.Core.Bool.{Bool, true, false}
-use mathlib.Core.List.{List, [], _∷_, _++_, map}
+use mathlib.Core.List.{List, [], _∷_, map}
 use mathlib.Core.Option.{Option, none, some}
 use lib.Dec.{eqb}
-use borrow.Author.Tests.{eq-eqb, eqb-true, eqb-false}
-use lib.ListN.{getD, length, set, length-set, replicate, length-replicate, length-append, List·getD-eq-default}
-use lib.Seq.{getD-set-same, getD-set-other, set-out}
-use Rattle.rules.specs.Basics.{pick, mem, setAll, upto}
-use Rattle.rules.specs.Cells.{Slot, blank, ready, spent, keeps, isReady, isKeeping, lowest, orZero, cellOf}
-use Rattle.rules.proofs.Laws.{no-way, mem-nil, cons-cases, cons-self, cons-more, or-false}
-use Rattle.mapper.proofs.Slots.{renewSlot, length-setAll}
+use borrow.Author.Tests.{eqb-true, eqb-false}
+use lib.ListN.{getD, length, set, length-set, List·getD-eq-default}
+use lib.Seq.{getD-set-same, getD-set-other}
+use Rattle.rules.specs.Basics.{pick, mem, setAll}
+use Rattle.rules.specs.Cells.{Slot, blank, ready, spent, keeps, isKeeping, lowest, orZero, cellOf}
+use Rattle.rules.proofs.Laws.{no-way, mem-nil, cons-cases, cons-self, cons-more}
+use Rattle.mapper.proofs.Slots.{length-setAll}
 
 pub record Kept (cell : List ℕ) (l : List Slot) : Type 0 where
   pub found : (c s : ℕ) → getD l c blank ≡ keeps s → getD cell s 0 ≡ c

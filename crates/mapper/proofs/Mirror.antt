@@ -1,33 +1,28 @@
 -- The code's mapping state beside the rule's, and a cell found for the next gate.
 -- Assumes nothing.
-use Prim.Native.Nat.{ℕ, zero, suc, _+_, _-_, _*_, _<_, _≤_}
+use Prim.Native.Nat.{ℕ, zero, suc, _+_, _<_, _≤_}
 use native.Mathlib.Omega.{arith}
-use mathlib.Core.Path.{_≡_, refl, sym, ap, _∙_, subst}
-use mathlib.Core.Bool.{Bool, true, false, _||_}
-use mathlib.Core.List.{List, [], _∷_, _++_, map, append-assoc, append-nil}
-use mathlib.Core.Option.{Option, none, some}
+use mathlib.Core.Path.{_≡_, refl, sym, ap, _∙_}
+use mathlib.Core.Bool.{true, _||_}
+use mathlib.Core.List.{List, [], _∷_, _++_, map, append-assoc}
+use mathlib.Core.Option.{none, some}
 use lib.Dec.{ltb}
-use lib.ListN.{getD, length, take, length-append, length-map, List·getD-map}
+use lib.ListN.{getD, length, length-append, length-map}
 use lib.Seq.{getD-take, length-take-le}
-use Rattle.rules.specs.Basics.{pick, mem, setAll}
+use Rattle.rules.specs.Basics.{mem}
 use Rattle.rules.specs.Form.{form01}
-use Rattle.rules.specs.Refusals.{Res, good, refuse}
-use Rattle.rules.specs.Sequence.{Instruction, Set, instructionText, texts}
-use Rattle.rules.specs.Cells.{Slot, blank, ready, spent, keeps, isReady, lowest, State, place, setCells, inReady, afterSet, inLowest, executeGate, allSpent}
-use Rattle.rules.specs.Netlist as rules
-use Rattle.rules.proofs.Laws.{no-way}
+use Rattle.rules.specs.Sequence.{Instruction, instructionText}
+use Rattle.rules.specs.Cells.{Slot, blank, ready, spent, keeps, isReady, lowest, State}
 use Rattle.netlist.specs.declared.Netlist.{Netlist}
-use Rattle.netlist.specs.Flat.{netlistIn}
 use Rattle.mapper.specs.declared.cells.Cells.{Cells}
 use Rattle.mapper.specs.Text.{Written}
-use Rattle.mapper.specs.Held.{codeOf, cellsOf, spentIn, NoneBelow, Fine, Short, Sought, Renewed, Roomed, atOnce, later}
+use Rattle.mapper.specs.Held.{codeOf, cellsOf, NoneBelow, Fine, Sought}
 use Rattle.mapper.specs.Wanted.{Wanted}
 use Rattle.mapper.specs.Run.{codeText}
-use Rattle.mapper.proofs.Writing.{set-text, written-none, written-join}
-use Rattle.mapper.proofs.Slots.{renewSlot, spent-same, renewed-slots, renewed-codes, lowest-found, lowest-none}
+use Rattle.mapper.proofs.Writing.{written-join}
+use Rattle.mapper.proofs.Slots.{lowest-found, lowest-none}
 use Rattle.mapper.proofs.Keeping.{Kept}
-use Rattle.mapper.proofs.Opens.{renewed-at, kept-renewed}
-use Rattle.mapper.proofs.Bounds.{Bounded, Halfway, halfway-at-once, halfway-set, texts-snoc}
+use Rattle.mapper.proofs.Bounds.{texts-snoc}
 
 -- ---- the text since a place
 

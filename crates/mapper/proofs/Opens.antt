@@ -4,19 +4,14 @@ use Prim.Native.Nat.{ℕ, zero, suc, _+_, _-_, _<_, _≤_}
 use native.Mathlib.Omega.{arith}
 use native.Mathlib.Decide.{decLt}
 use mathlib.Core.Path.{_≡_, refl, sym, ap, _∙_}
-use mathlib.Core.Bool.{Bool, true, false, _||_}
 use mathlib.Core.List.{List, [], _∷_, _++_, map}
-use lib.Dec.{eqb, ltb}
-use borrow.Author.Tests.{lt-ltb}
-use lib.ListN.{getD, length, take, set, replicate, length-replicate, length-append, length-map, List·getD-append, List·getD-map, List·getD-eq-default, getD-replicate}
+use lib.ListN.{getD, length, take, replicate, length-replicate, length-map, List·getD-append, List·getD-map, List·getD-eq-default}
 use lib.Seq.{getD-append-add, take-append-add}
-use Rattle.rules.specs.Basics.{pick, mem, upto}
+use Rattle.rules.specs.Basics.{pick, upto}
 use Rattle.rules.specs.Cells.{Slot, blank, ready, spent, keeps, opening}
-use Rattle.rules.specs.Sequence.{Set}
-use Rattle.rules.proofs.Laws.{no-way, or-left}
+use Rattle.rules.proofs.Laws.{no-way}
 use Rattle.netlist.specs.declared.Netlist.{Netlist}
 use Rattle.netlist.specs.Flat.{netlistIn}
-use Rattle.mapper.specs.declared.cells.Cells.{Cells}
 use Rattle.mapper.specs.Held.{codeOf, cellsOf, spentIn, renewed, firstHeld, firstCells}
 use Rattle.mapper.specs.Run.{opened}
 use Rattle.mapper.proofs.Slots.{renewSlot}

@@ -1,22 +1,21 @@
 -- A cell for the next gate: at once, or after a set line, or none: what the rule says.
 -- Assumes nothing.
-use Prim.Native.Nat.{ℕ, zero, suc, _+_, _-_, _*_, _<_, _≤_}
+use Prim.Native.Nat.{ℕ, _+_, _<_, _≤_}
 use native.Mathlib.Omega.{arith}
 use mathlib.Core.Path.{_≡_, refl, sym, ap, _∙_, subst}
-use mathlib.Core.List.{List, [], _∷_, _++_, map}
-use mathlib.Core.Option.{Option, none, some}
-use lib.ListN.{getD, length, length-append}
+use mathlib.Core.List.{List, [], _∷_, map}
+use mathlib.Core.Option.{none, some}
+use lib.ListN.{getD, length-append}
 use Rattle.rules.specs.Basics.{setAll}
-use Rattle.rules.specs.Refusals.{Res, good, refuse}
+use Rattle.rules.specs.Refusals.{good, refuse}
 use Rattle.rules.specs.Sequence.{Instruction, Set}
-use Rattle.rules.specs.Cells.{Slot, blank, ready, keeps, isReady, lowest, State, place, setCells, inReady, afterSet, inLowest, executeGate, allSpent, those, isSpent}
+use Rattle.rules.specs.Cells.{blank, ready, isReady, lowest, State, place, setCells, inReady, afterSet, inLowest, executeGate, allSpent}
 use Rattle.rules.specs.Netlist as rules
 use Rattle.rules.proofs.Laws.{no-way}
 use Rattle.netlist.specs.declared.Netlist.{Netlist}
 use Rattle.netlist.specs.Flat.{netlistIn}
 use Rattle.mapper.specs.declared.cells.Cells.{Cells}
-use Rattle.mapper.specs.Text.{Written}
-use Rattle.mapper.specs.Held.{codeOf, cellsOf, spentIn, renewed, Sought, Renewed, Roomed, atOnce, later}
+use Rattle.mapper.specs.Held.{codeOf, cellsOf, spentIn, renewed, Renewed, Roomed, atOnce, later}
 use Rattle.mapper.proofs.Writing.{set-text}
 use Rattle.mapper.proofs.Slots.{renewSlot, spent-same, renewed-slots, renewed-codes}
 use Rattle.mapper.proofs.Opens.{renewed-at, kept-renewed}

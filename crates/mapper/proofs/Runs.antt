@@ -1,10 +1,10 @@
 -- The run: its start, one gate more, no room, and its end.
 -- Assumes nothing.
-use Prim.Native.Nat.{ℕ, zero, suc, _+_, _-_, _*_, _<_, _≤_}
+use Prim.Native.Nat.{ℕ, zero, suc, _+_, _-_, _<_, _≤_}
 use native.Mathlib.Omega.{arith}
 use native.Mathlib.Numerals.{add-one}
-use mathlib.Core.Path.{_≡_, refl, sym, ap, _∙_, subst}
-use mathlib.Core.Bool.{Bool, true, false, _||_}
+use mathlib.Core.Path.{_≡_, refl, sym, ap, _∙_}
+use mathlib.Core.Bool.{false}
 use mathlib.Core.List.{List, [], _∷_, _++_, map, append-nil}
 use lib.Dec.{ltb}
 use borrow.Author.Tests.{lt-ltb}
@@ -13,22 +13,20 @@ use lib.Seq.{drop-cons, take-suc, getD-take, length-take-le}
 use Rattle.rules.specs.Basics.{mem, upto}
 use Rattle.rules.specs.Form.{form01}
 use Rattle.rules.specs.Lines.{written}
-use Rattle.rules.specs.Refusals.{Res, good, refuse, _>>=_}
+use Rattle.rules.specs.Refusals.{good, refuse, _>>=_}
 use Rattle.rules.specs.Sequence.{Instruction, Set, instructionText, texts}
-use Rattle.rules.specs.Cells.{Slot, blank, ready, spent, keeps, isSpent, those, cellOf, State, place, executeGate, executeGates, allSpent, opening}
+use Rattle.rules.specs.Cells.{ready, keeps, isSpent, those, State, place, executeGate, executeGates, allSpent, opening}
 use Rattle.rules.specs.Netlist as rules
 use Rattle.rules.proofs.Laws.{or-left}
 use Rattle.netlist.specs.declared.Netlist.{Netlist}
 use Rattle.netlist.specs.Flat.{netlistIn}
-use Rattle.netlist.specs.Well.{WellFlat}
 use Rattle.mapper.specs.declared.cells.Cells.{Cells}
 use Rattle.mapper.specs.Text.{Written}
-use Rattle.mapper.specs.Held.{cellsOf, firstCells, Renewed, Roomed, Fine, Short}
-use Rattle.order.specs.Visit.{Steps}
+use Rattle.mapper.specs.Held.{firstCells, Renewed, Roomed, Fine, Short}
 use Rattle.mapper.specs.Run.{codeText, opened, ran, Executable, Executed, Mapped, Runnable}
 use Rattle.mapper.proofs.Writing.{set-text, written-join}
 use Rattle.mapper.proofs.Keeping.{kept-cell}
-use Rattle.mapper.proofs.Opens.{openSlots, opened-slots, open-keeps, kept-open, upto-length, first-spent, first-renewed}
+use Rattle.mapper.proofs.Opens.{opened-slots, open-keeps, kept-open, upto-length, first-spent, first-renewed}
 use Rattle.mapper.proofs.Bounds.{Bounded, written-length}
 use Rattle.mapper.proofs.Mirror.{Since, since-at, Mirrors, mirror-fine}
 use Rattle.mapper.proofs.Rooms.{Roomy, room-found, room-none}

@@ -1,16 +1,16 @@
 -- The rule's slots beside the code's numbers: the lowest ready cell, the spent ones, and what is set in them.
 -- Assumes nothing.
-use Prim.Native.Nat.{ℕ, zero, suc, _+_, _-_, _*_, _<_, _≤_}
+use Prim.Native.Nat.{ℕ, zero, suc, _+_, _<_}
 use native.Mathlib.Omega.{arith}
 use native.Mathlib.Numerals.{add-one}
 use mathlib.Core.Path.{_≡_, refl, sym, ap, _∙_}
-use mathlib.Core.Bool.{Bool, true, false}
+use mathlib.Core.Bool.{true}
 use mathlib.Core.List.{List, [], _∷_, _++_, map, append-assoc}
-use mathlib.Core.Option.{Option, none, some}
-use lib.Dec.{eqb, ltb}
-use borrow.Author.Tests.{eq-eqb, ne-eqb, lt-ltb, le-ltb}
+use mathlib.Core.Option.{none, some}
+use lib.Dec.{eqb}
+use borrow.Author.Tests.{eq-eqb, ne-eqb}
 use lib.ListN.{getD, length, take, set, length-append, length-set}
-use lib.Seq.{set-append-seam, getD-take}
+use lib.Seq.{set-append-seam}
 use Rattle.rules.specs.Basics.{pick, setAll}
 use Rattle.rules.specs.Cells.{Slot, blank, ready, spent, keeps, isReady, isSpent, those, lowest, allSpent}
 use Rattle.mapper.specs.Held.{codeOf, spentIn, renewed}

@@ -7,11 +7,11 @@ use mathlib.Core.Path.{_≡_, refl, sym, ap, _∙_}
 use mathlib.Core.List.{List, [], _∷_, _++_, map}
 use lib.ListN.{getD, length, take, drop, set, length-append, length-set, drop-of-length-le}
 use lib.Seq.{sets, length-sets, length-take-le, drop-cons, getD-take}
-use Rattle.rules.specs.Form.{form01, one, two}
+use Rattle.rules.specs.Form.{form01, one}
 use Rattle.rules.specs.Lines.{digitOf, written, bytesOf}
-use Rattle.rules.specs.Sequence.{Set, Nor, instructionText, placeText, headText, texts}
+use Rattle.rules.specs.Sequence.{Set, Nor, instructionText, placeText, texts}
 use Rattle.netlist.specs.Flat.{from}
-use Rattle.mapper.specs.Text.{Written, digits, entry, headLine}
+use Rattle.mapper.specs.Text.{Written, digits, entry}
 
 pub sets-append : (u v out : List ℕ) (p : ℕ) → sets out p (u ++ v) ≡ sets (sets out p u) (p + length u) v
 sets-append [] v out p = let e : p + 0 ≡ p = omega arith in rw e

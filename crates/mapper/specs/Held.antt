@@ -1,16 +1,16 @@
 -- The mapping state of the code: a number for each cell, and how far the text has come.
 -- Assumes nothing.
-use Prim.Native.Nat.{ℕ, zero, suc, _+_, _-_, _*_, _<_, _≤_}
+use Prim.Native.Nat.{ℕ, suc, _+_, _-_, _<_, _≤_}
 use mathlib.Core.Path.{_≡_}
-use mathlib.Core.Bool.{Bool, true, false, _&&_}
+use mathlib.Core.Bool.{Bool, _&&_}
 use mathlib.Core.List.{List, [], _∷_, _++_, map}
 use lib.Dec.{eqb, leb}
 use lib.ListN.{getD, take, length, set, replicate}
-use Rattle.rules.specs.Basics.{pick, keep, setAll}
+use Rattle.rules.specs.Basics.{pick}
 use Rattle.rules.specs.Lines.{written}
 use Rattle.rules.specs.Cells.{Slot, blank, ready, spent, keeps}
 use Rattle.mapper.specs.declared.cells.Cells.{Cells}
-use Rattle.mapper.specs.Text.{Written, digits, entry}
+use Rattle.mapper.specs.Text.{Written, digits}
 
 -- the number that stands for what the rule says of a cell
 unfoldable pub codeOf : Slot → ℕ

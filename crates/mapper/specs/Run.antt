@@ -1,17 +1,14 @@
 -- One gate executed by the code, and the whole run beside the rule's.
 -- Assumes nothing.
-use Prim.Native.Nat.{ℕ, zero, suc, _+_, _-_, _*_, _<_, _≤_}
+use Prim.Native.Nat.{ℕ, _+_, _-_, _<_, _≤_}
 use mathlib.Core.Path.{_≡_}
-use mathlib.Core.Bool.{Bool, true, false, _||_}
-use mathlib.Core.List.{List, [], _∷_, map}
-use lib.Dec.{ltb}
+use mathlib.Core.List.{List, [], map}
 use lib.ListN.{getD, take, length, set}
-use lib.Seq.{sets}
-use Rattle.rules.specs.Basics.{mem, keep, setAll, upto}
+use Rattle.rules.specs.Basics.{keep, setAll, upto}
 use Rattle.rules.specs.Form.{form01}
 use Rattle.rules.specs.Refusals.{Res, good, refuse}
 use Rattle.rules.specs.Sequence.{Instruction, Nor, instructionText, texts}
-use Rattle.rules.specs.Cells.{Slot, blank, keeps, State, cellOf, executeGates, allSpent, opening}
+use Rattle.rules.specs.Cells.{State, cellOf, executeGates, allSpent, opening}
 use Rattle.netlist.specs.declared.Netlist.{Netlist}
 use Rattle.netlist.specs.Flat.{gateIn, netlistIn}
 use Rattle.netlist.specs.Well.{WellFlat}

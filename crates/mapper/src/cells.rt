@@ -1,12 +1,8 @@
 // Cells: the mapping state passes from one gate to the next as a value.
 ghost use mathlib.Core.Path.{_≡_};
 ghost use Prim.Native.Nat.{_+_, _≤_, _<_};
-ghost use mathlib.Core.List.{[], _∷_, map};
-ghost use lib.Dec.{eqb};
-ghost use lib.ListN.{getD, length, set, replicate};
-ghost use lib.Seq.{sets};
-ghost use Rattle.rules.specs.Basics.{pick, keep, setAll};
-ghost use Rattle.rules.specs.Lines.{digitOf};
+ghost use mathlib.Core.List.{map};
+ghost use Rattle.rules.specs.Basics.{keep, setAll};
 ghost use Rattle.netlist.specs.Flat.{from};
 ghost use Rattle.mapper.specs.Text.{Written, entry};
 ghost use Rattle.mapper.specs.Held.{ones, firstCells, renewed, spentDigits, Fine, Short, Sought, Renewed, Roomed, isFree, placed, withHeld};
@@ -15,8 +11,14 @@ use lines::write::put_byte;
 use slices::at8;
 use slices::at16;
 
-// held: 0 for a ready cell, 1 for a spent one, 2 for one that keeps a signal. No cell of the row below next is ready.
-// The text so far ends at the place at, after so many lines.
+// What held says of a cell: it is ready, or spent, or keeps a signal.
+const READY: u8 = 0;
+
+const SPENT: u8 = 1;
+
+const KEEPS: u8 = 2;
+
+// The mapping state. No cell of the row below next is ready. The text so far ends at the place at, after so many lines.
 pub struct Cells {
     pub held: [u8; 256],
     pub row: usize,
@@ -28,25 +30,26 @@ pub struct Cells {
 fn all_spent() -> [u8; 256]
     ensures { λ r. ⌜ r ≡ ones 256 ⌝ }
 {
-    [1u8; 256]
+    [SPENT; 256]
 }
 
+// A spent cell becomes ready, any other stays.
 fn renew(x: u8) -> u8
     ensures { λ r. ⌜ r ≡ renewed x ⌝ }
 {
-    if x == 1 {
-        return 0;
+    if x == SPENT {
+        return READY;
     }
     x
 }
 
-// The digits of cell i, if its number says that it is spent; the answer is the place after them.
-fn put_spent(out: &mut [u8], at: usize, x: u8, i: usize) -> usize
-    requires { ⌜ (i < 256) × (at ≤ 100000) ⌝ }
-    ensures { λ r. ⌜ Written (now (out .entry)) at (spentDigits x i) (now (out .exit)) r × (r ≤ at + 2) ⌝ }
+// The digits of cell c, if it is spent; the answer is the place after them.
+fn put_spent(out: &mut [u8], at: usize, x: u8, c: usize) -> usize
+    requires { ⌜ (c < 256) × (at ≤ 100000) ⌝ }
+    ensures { λ r. ⌜ Written (now (out .entry)) at (spentDigits x c) (now (out .exit)) r × (r ≤ at + 2) ⌝ }
 {
-    if x == 1 {
-        put_byte(out, at, i as u8);
+    if x == SPENT {
+        put_byte(out, at, c as u8);
         return at + 2;
     }
     at
@@ -71,7 +74,7 @@ impl Cells {
         let mut held = all_spent();
         let mut i = 0;
         while i < inputs {
-            held[i] = 2;
+            held[i] = KEEPS;
             i += 1;
         }
         Cells {
@@ -91,7 +94,7 @@ impl Cells {
         let n = self.row;
         let mut i = self.next;
         while i < n {
-            if self.held[i] == 0 {
+            if self.held[i] == READY {
                 self.next = i;
                 return self;
             }
@@ -110,12 +113,12 @@ impl Cells {
         let at = self.at;
         put_byte(out, at, 0x12);
         let mut p = at + 2;
-        let mut i = 0;
-        while i < n {
-            let x = self.held[i];
-            p = put_spent(out, p, x, i);
-            self.held[i] = renew(x);
-            i += 1;
+        let mut c = 0;
+        while c < n {
+            let x = self.held[c];
+            p = put_spent(out, p, x, c);
+            self.held[c] = renew(x);
+            c += 1;
         }
         put(out, p, 10);
         self.at = p + 1;
@@ -143,7 +146,7 @@ impl Cells {
         requires { ⌜ (c < 256) × (self .lines ≤ 60000) ⌝ }
         ensures { λ r. ⌜ r ≡ placed self c at ⌝ }
     {
-        self.held[c] = 2;
+        self.held[c] = KEEPS;
         self.at = at;
         self.lines += 1;
         self
@@ -167,7 +170,7 @@ impl Cells {
             let o = at16(list, at + j) as usize;
             if is_free(inputs, left, o) {
                 let c = at8(cell, o) as usize;
-                self.held[c] = 1;
+                self.held[c] = SPENT;
             }
             j += 1;
         }

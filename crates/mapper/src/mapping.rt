@@ -1,7 +1,7 @@
 // Mapping: the gates executed in order, from the opening on.
 ghost use mathlib.Core.Path.{_≡_};
 ghost use Prim.Native.Nat.{_≤_};
-ghost use lib.ListN.{length, set, take};
+ghost use lib.ListN.{set, take};
 ghost use lib.Seq.{sets};
 ghost use Rattle.rules.specs.Basics.{pick, keep, setAll, upto};
 ghost use Rattle.netlist.specs.Flat.{from};

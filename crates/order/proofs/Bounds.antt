@@ -2,15 +2,14 @@
 -- Assumes nothing.
 use Prim.Native.Nat.{ℕ, zero, suc, _+_, _-_, _*_, _<_, _≤_}
 use native.Mathlib.Omega.{arith}
-use native.Mathlib.Numerals.{add-one}
-use mathlib.Core.Path.{_≡_, refl, sym, ap, _∙_}
+use mathlib.Core.Path.{_≡_, refl}
 use mathlib.Core.Bool.{Bool, true, false, _&&_}
 use mathlib.Core.List.{List, [], _∷_}
 use lib.Dec.{leb, ltb}
 use borrow.Author.Tests.{leb-true, le-leb, lt-leb, ltb-true, lt-ltb}
-use lib.ListN.{getD, length}
+use lib.ListN.{getD}
 use Rattle.rules.specs.Basics.{all, mem}
-use Rattle.rules.proofs.Laws.{no-way, and-true, mem-nil, cons-cases, cons-self, cons-more}
+use Rattle.rules.proofs.Laws.{and-true, mem-nil, cons-cases, cons-self, cons-more}
 use Rattle.netlist.specs.declared.Netlist.{Netlist}
 use Rattle.netlist.specs.Flat.{from, gateIn}
 use Rattle.netlist.specs.Well.{WellFlat}

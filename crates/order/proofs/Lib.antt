@@ -1,6 +1,8 @@
 pub mod Lists
 pub mod Sorting
+pub mod Members
 pub mod Weighing
+pub mod Weighted
 pub mod Marks
 pub mod Walking
 pub mod Counting

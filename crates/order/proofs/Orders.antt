@@ -2,7 +2,7 @@
 -- Assumes nothing.
 use Prim.Native.Nat.{ℕ, zero, suc, _+_, _-_, _*_, _<_, _≤_}
 use native.Mathlib.Omega.{arith}
-use native.Mathlib.Decide.{ℕ-discrete, decLt}
+use native.Mathlib.Decide.{decLt}
 use mathlib.Core.Path.{_≡_, refl, sym, ap, _∙_, fun-ext}
 use mathlib.Core.Bool.{Bool, true, false, not}
 use mathlib.Core.List.{List, [], _∷_, _++_}
@@ -11,11 +11,11 @@ use lib.ListN.{getD, length, take, length-append, length-replicate, List·getD-a
 use lib.Seq.{getD-at, take-append-le, take-at}
 use Rattle.rules.specs.Basics.{pick, mem, keep, each, upto}
 use Rattle.rules.specs.Netlist.{isRead, gateSignals}
-use Rattle.rules.specs.Weight.{highToLow, gateOperands, weightIn}
+use Rattle.rules.specs.Weight.{gateOperands, weightIn}
 use Rattle.rules.specs.Order.{visit, visitOrder, roots, order}
-use Rattle.rules.proofs.Laws.{no-way, mem-nil, cons-cases, cons-self, cons-more}
+use Rattle.rules.proofs.Laws.{mem-nil, cons-cases, cons-self, cons-more}
 use Rattle.netlist.specs.declared.Netlist.{Netlist}
-use Rattle.netlist.specs.Flat.{from, gateIn, gatesIn, netlistIn}
+use Rattle.netlist.specs.Flat.{from, gatesIn, netlistIn}
 use Rattle.order.specs.Sort.{opsIn, zeros, Blank, Light, Room, Visits}
 use Rattle.order.specs.Visit.{ones, Tied, Lower, Steps, unread, orderFrom, Opened, Ordered, InOrder}
 use Rattle.order.specs.Wanted.{times, waiting, Placed, CountedUp, Readers}
@@ -23,7 +23,9 @@ use Rattle.netlist.proofs.Arrays.{length-gates, getD-gates, length-gate, from-m
 use Rattle.order.specs.Plan.{Fits, isFlat, orderIn, wantedIn, Planned}
 use Rattle.order.proofs.Lists.{gates-past}
 use Rattle.order.proofs.Counting.{times-most}
-use Rattle.order.proofs.Weighing.{mem-keep, mem-sorted, mem-gates, operand-low, orderOf, weightsTo, rule-order, replicate-zero}
+use Rattle.order.proofs.Weighing.{mem-gates, operand-low, weightsTo, rule-order}
+use Rattle.order.proofs.Weighted.{replicate-zero}
+use Rattle.order.proofs.Members.{mem-keep, mem-sorted}
 use Rattle.order.proofs.Walking.{keeps-higher, each-keeps}
 use Rattle.order.proofs.Readership.{waiting-read}
 
@@ -211,11 +213,11 @@ readers-light n w r = record { all = λ s. rw (r .is s) (omega (arith, reads-mos
         go (yes h) = rw (getD-gates (n .ops) (n .counts) (n .gates) j [] h) (omega (arith, length-gate (n .ops) (n .counts) j, w .few j h))
         go (no h) = rw (gates-past (n .ops) (n .counts) (n .gates) j (omega (arith, h))) (omega arith)
 
-pub outputs-placed : (n : Netlist) → Fits n → {left : List ℕ} → length left ≡ 576 → Placed (from (n .outs) 0 (n .outputs)) left
-outputs-placed n w l = record {
+pub outputs-placed : (n : Netlist) → Fits n → (k : ℕ) → k ≤ n .outputs → {left : List ℕ} → length left ≡ 576 → Placed (from (n .outs) 0 k) left
+outputs-placed n w k h l = record {
   inside = λ o m.
-      let r = from-mem (n .outs) 0 (n .outputs) o m in
+      let r = from-mem (n .outs) 0 k o m in
       let z : 0 + r .0 ≡ r .0 = omega arith in
-      let k : o < n .inputs + n .gates = rw (← r .2, z) (w .outputsLow (r .0) (r .1)) in
-      omega (arith, k, l, w .inputsMost, w .gatesMost);
+      let low : o < n .inputs + n .gates = rw (← r .2, z) (w .outputsLow (r .0) (omega (arith, r .1))) in
+      omega (arith, low, l, w .inputsMost, w .gatesMost);
 }

@@ -1,20 +1,19 @@
 -- Readers counted gate by gate; a signal that nobody reads is the rule's root.
 -- Assumes nothing.
-use Prim.Native.Nat.{ℕ, zero, suc, _+_, _-_, _*_, _<_, _≤_}
+use Prim.Native.Nat.{ℕ, zero, suc, _+_, _*_, _<_, _≤_}
 use native.Mathlib.Omega.{arith}
 use native.Mathlib.Numerals.{add-one}
-use mathlib.Core.Path.{_≡_, refl, sym, ap, _∙_, fun-ext}
+use mathlib.Core.Path.{_≡_, refl, _∙_}
 use mathlib.Core.Bool.{Bool, true, false, _&&_, _||_, not}
 use mathlib.Core.List.{List, [], _∷_, _++_}
-use lib.Dec.{eqb, leb}
-use borrow.Author.Tests.{eqb-true, eqb-false, eq-eqb, ne-eqb}
-use lib.ListN.{getD, length, length-append}
+use lib.Dec.{eqb}
+use borrow.Author.Tests.{ne-eqb}
+use lib.ListN.{getD, length}
 use Rattle.rules.specs.Basics.{pick, mem, any}
-use Rattle.rules.specs.Netlist.{isRead}
-use Rattle.rules.specs.Cells.{served, released}
-use Rattle.rules.proofs.Laws.{no-way, mem-append, mem-one, snoc-self}
+use Rattle.rules.specs.Cells.{served}
+use Rattle.rules.proofs.Laws.{snoc-self}
 use Rattle.netlist.specs.declared.Netlist.{Netlist}
-use Rattle.netlist.specs.Flat.{from, gateIn, gatesIn, netlistIn}
+use Rattle.netlist.specs.Flat.{from, gateIn, gatesIn}
 use Rattle.netlist.proofs.Arrays.{length-from}
 use Rattle.order.specs.Plan.{Fits}
 use Rattle.order.specs.Sort.{Blank, Light}

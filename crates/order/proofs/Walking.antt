@@ -12,7 +12,7 @@ use Rattle.rules.specs.Order.{visit}
 use Rattle.rules.proofs.Laws.{cons-self, cons-more}
 use Rattle.netlist.specs.Flat.{from}
 use Rattle.order.specs.Sort.{opsIn}
-use Rattle.order.specs.Visit.{Tied, Lower, Appended, Visited, unread, orderFrom, Rooted, Opened, Ordered}
+use Rattle.order.specs.Visit.{Tied, Lower, Appended, Visited, unread, orderFrom, Rooted, Ordered}
 use Rattle.netlist.proofs.Arrays.{mem-from}
 use Rattle.order.proofs.Marks.{mem-other, tied-fits}
 

@@ -2,10 +2,10 @@
 -- Assumes nothing.
 use Prim.Native.Nat.{ℕ, zero, suc, _+_, _*_, _<_, _≤_}
 use mathlib.Core.Path.{_≡_}
-use mathlib.Core.Bool.{Bool, true, false, _&&_}
+use mathlib.Core.Bool.{Bool, true, _&&_}
 use mathlib.Core.List.{List, []}
 use lib.Dec.{leb, ltb}
-use lib.ListN.{getD, take, length}
+use lib.ListN.{getD, take}
 use Rattle.rules.specs.Basics.{pick, all}
 use Rattle.rules.specs.Order.{order}
 use Rattle.netlist.specs.declared.Netlist.{Netlist}

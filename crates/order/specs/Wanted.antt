@@ -1,16 +1,14 @@
 -- Who still wants a signal: its readers that have not been executed, and the outputs.
 -- Assumes nothing.
-use Prim.Native.Nat.{ℕ, zero, suc, _+_, _-_, _*_, _<_, _≤_}
+use Prim.Native.Nat.{ℕ, suc, _+_, _<_}
 use mathlib.Core.Path.{_≡_}
-use mathlib.Core.Bool.{Bool, true, false}
+use mathlib.Core.Bool.{true}
 use mathlib.Core.List.{List, [], _∷_}
 use lib.Dec.{eqb}
 use lib.ListN.{getD, length}
 use Rattle.rules.specs.Basics.{pick, mem}
-use Rattle.rules.specs.Netlist as rules
 use Rattle.netlist.specs.declared.Netlist.{Netlist}
-use Rattle.netlist.specs.Flat.{from, gatesIn, netlistIn}
-use Rattle.order.specs.Sort.{Light}
+use Rattle.netlist.specs.Flat.{gatesIn}
 
 -- how often a number stands in a list
 unfoldable pub times : ℕ → List ℕ → ℕ

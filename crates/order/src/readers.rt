@@ -1,5 +1,4 @@
 // Readers: how many still want each signal.
-ghost use mathlib.Core.Path.{_≡_};
 ghost use Prim.Native.Nat.{_+_, _≤_};
 ghost use lib.ListN.{length};
 ghost use Rattle.netlist.specs.Flat.{from};

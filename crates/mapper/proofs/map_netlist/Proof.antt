@@ -1,5 +1,4 @@
 use native.Mathlib.Omega.{arith}
-use mathlib.Core.Path.{_∙_}
 use Rattle.mapper.proofs.Delivering.{body, deliver-none, deliver-short, deliver-good}
 use borrow.Author.Needs.{needs}
 use Rattle.mapper.proofs.map_netlist.Statement.{statement}

@@ -1,4 +1,3 @@
-use native.Mathlib.Omega.{arith}
 use mathlib.Core.Path.{ap, _∙_}
 use lib.ListN.{length}
 use Rattle.order.proofs.Orders.{zeros-length}

@@ -37,7 +37,7 @@ slice-aggregate-count-up-2 c = search needs
 
 count-up-requires : tie.Need-count-up-requires
 count-up-requires c κs = let w = flat-fits (c .before .before .before .before .before .before .before .before .before .before .before .before .args .n) (sym (c .before .before .before .before .before .before .before .before .before .fits2 .ensures) ∙ not-false _ (c .before .before .before .before .before .before .before .before .if1 .left)) in
-    (omega arith, (w .outputsMost, (readers-light (c .before .before .before .before .before .before .before .before .before .before .before .before .args .n) w (c .before .before .before .before .before .in-order .ensures .1), outputs-placed (c .before .before .before .before .before .before .before .before .before .before .before .before .args .n) w (c .before .before .before .before .before .in-order .kept .1 .0 ∙ ap length (c .before .before .before .before .before .before .before .before .before .before .before .blank16 .ensures) ∙ zeros-length 576))))
+    (omega arith, (omega (arith, w .outputsMost), (readers-light (c .before .before .before .before .before .before .before .before .before .before .before .before .args .n) w (c .before .before .before .before .before .in-order .ensures .1), outputs-placed (c .before .before .before .before .before .before .before .before .before .before .before .before .args .n) w _ (search needs) (c .before .before .before .before .before .in-order .kept .1 .0 ∙ ap length (c .before .before .before .before .before .before .before .before .before .before .before .blank16 .ensures) ∙ zeros-length 576))))
 
 returns-2 : tie.Need-returns-2
 returns-2 c = plan-some _ (sym (c .before .before .before .before .before .before .before .before .before .before .before .fits2 .ensures) ∙ not-false _ (c .before .before .before .before .before .before .before .before .before .before .if1 .left)) (c .before .before .before .before .before .before .before .in-order .kept .1 .1 .0 ∙ ap length (c .before .before .before .before .before .before .before .before .before .before .before .before .blank162 .ensures) ∙ zeros-length 576) (c .before .before .before .before .before .before .before .in-order .ensures .0) (c .before .before .before .before .before .before .before .in-order .ensures .1) (c .before .count-up .ensures)

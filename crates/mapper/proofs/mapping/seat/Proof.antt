@@ -1,4 +1,3 @@
-use native.Mathlib.Omega.{arith}
 use Prim.Native.Nat.{_-_}
 use Rattle.mapper.proofs.Tabling.{Filling, filling-start, filling-turn, filling-end}
 use borrow.Author.Needs.{needs}

@@ -1,4 +1,3 @@
-use native.Mathlib.Omega.{arith}
 use Prim.Native.Nat.{_-_}
 use mathlib.Core.Path.{refl}
 use Rattle.mapper.proofs.Counting.{CountingDown, down-start, down-some, down-turn, down-end}

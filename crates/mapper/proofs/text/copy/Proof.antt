@@ -1,4 +1,3 @@
-use native.Mathlib.Omega.{arith}
 use Prim.Native.Nat.{_-_}
 use Rattle.mapper.proofs.Writing.{Copying, copying-start, copying-turn, copying-end}
 use borrow.Author.Needs.{needs}

@@ -1,4 +1,3 @@
-use native.Mathlib.Omega.{arith}
 use Prim.Native.Nat.{_-_}
 use Rattle.netlist.proofs.Operands.{Lower, lower-start, lower-turn, lower-stop, lower-end}
 use borrow.Author.Needs.{needs}

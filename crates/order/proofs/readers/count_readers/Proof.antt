@@ -1,6 +1,5 @@
 use native.Mathlib.Omega.{arith}
 use Prim.Native.Nat.{_-_}
-use mathlib.Core.Path.{refl}
 use Rattle.order.proofs.Readership.{Reading, reading-start, reading-turn, reading-end, operands-placed}
 use borrow.Author.Needs.{needs}
 use Rattle.order.proofs.readers.count_readers.Statement.{statement}

@@ -2,8 +2,6 @@ use borrow.Author.Tests.{lt-ltb, le-ltb}
 use Rattle.rules.specs.Basics.{pick, larger}
 use Rattle.order.proofs.weights.larger_of.Statement.{statement}
 use Rattle.order.proofs.weights.larger_of.Tie as tie
-use Rattle.order.proofs.weights.larger_of.Reads as reads
-use Rattle.order.proofs.weights.larger_of.Lts as lts
 
 -- src/weights.rt:114:9
 returns : tie.Need-returns

@@ -1,5 +1,4 @@
 use native.Mathlib.Omega.{arith}
-use mathlib.Core.Path.{_∙_}
 use Rattle.rules.specs.Weight.{weigh}
 use Rattle.netlist.specs.Flat.{gateIn}
 use Rattle.order.proofs.Weighing.{weight-fits}

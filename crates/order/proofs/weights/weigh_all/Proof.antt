@@ -1,6 +1,6 @@
 use native.Mathlib.Omega.{arith}
 use Prim.Native.Nat.{_-_}
-use Rattle.order.proofs.Weighing.{Weighting, weighting-start, weighting-turn, weighting-end}
+use Rattle.order.proofs.Weighted.{Weighting, weighting-start, weighting-turn, weighting-end}
 use borrow.Author.Needs.{needs}
 use Rattle.order.proofs.weights.weigh_all.Statement.{statement}
 use Rattle.order.proofs.weights.weigh_all.Tie as tie

@@ -1,6 +1,4 @@
 use Prim.Native.Nat.{_-_}
-use native.Mathlib.Omega.{arith}
-use mathlib.Core.Path.{_∙_}
 use Rattle.rules.specs.Weight.{weightIn}
 use Rattle.order.proofs.Sorting.{Peaking, peaking-none, peaking-start, peaking-turn, peaking-end}
 use borrow.Author.Needs.{needs}

@@ -1,4 +1,3 @@
-use native.Mathlib.Omega.{arith}
 use Prim.Native.Nat.{_-_}
 use Rattle.mapper.proofs.Cellwise.{Seating, seating-start, seating-turn, seating-end}
 use borrow.Author.Needs.{needs}

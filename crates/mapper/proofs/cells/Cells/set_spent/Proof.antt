@@ -7,10 +7,10 @@ use Rattle.mapper.proofs.cells.Cells.set_spent.Statement.{statement}
 use Rattle.mapper.proofs.cells.Cells.set_spent.Tie as tie
 
 abbrev Inv-loop : tie.InvT-loop
-Inv-loop out₀ self₀ n at p₀ i₀ out self p i = Renewing self₀ out₀ self out p i
+Inv-loop out₀ self₀ n at p₀ c₀ out self p c = Renewing self₀ out₀ self out p c
 
 abbrev μ-loop : tie.MeasureT-loop
-μ-loop out₀ self₀ n at p₀ i₀ out self p i = n - i
+μ-loop out₀ self₀ n at p₀ c₀ out self p c = n - c
 
 put-byte-requires : tie.Need-put-byte-requires Inv-loop μ-loop
 put-byte-requires c κs = search needs
@@ -33,8 +33,8 @@ renew-requires c κs = search needs
 element-write-self : tie.Need-element-write-self Inv-loop μ-loop
 element-write-self c = omega (arith, c .before .before .before .before .before .before .before .before .before .before .before .before .before .pre .size)
 
-add-i : tie.Need-add-i Inv-loop μ-loop
-add-i c = search needs
+add-c : tie.Need-add-c Inv-loop μ-loop
+add-c c = search needs
 
 loop-less : tie.Need-loop-less Inv-loop μ-loop
 loop-less c = search needs
@@ -70,7 +70,7 @@ set-spent-spec =
     put-spent-requires
     renew-requires
     element-write-self
-    add-i
+    add-c
     loop-less
     loop-again
     put-requires
