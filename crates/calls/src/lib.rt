@@ -4,7 +4,7 @@ ghost use mathlib.Core.Path.{_≡_};
 ghost use Prim.Native.Nat.{_-_, _%_, _^_};
 ghost use lib.ListN.{length};
 ghost use Rattle.rules.specs.Refusals.{meaning};
-ghost use Rattle.rules.specs.Calls.{evaluateOutcome, checkOutcome, simulateOutcome, tailOutcome, frameOutcome, placeOutcome};
+ghost use Rattle.rules.specs.Calls.{mapOutcome, evaluateOutcome, checkOutcome, simulateOutcome, tailOutcome, frameOutcome, placeOutcome};
 ghost use Rattle.calls.specs.Coded.{coded, readAnswer};
 use rules::Answer;
 
@@ -36,6 +36,15 @@ pub extern "C" fn bhedhmurali_read(text: &[u8]) -> u64
     let r = netlist::read(text);
     let n = r.refusal.number;
     minus(n)
+}
+
+// map: a netlist's text to a sequence's text for a row. The answer is the text's length.
+#[no_mangle]
+pub extern "C" fn bhedhmurali_map(row: usize, text: &[u8], out: &mut [u8]) -> u64
+    ensures { λ r. ⌜ (r ≡ coded (mapOutcome row (now (text .entry)) (now (out .entry)) .answer))
+        × (now (out .exit) ≡ mapOutcome row (now (text .entry)) (now (out .entry)) .lent) ⌝ }
+{
+    code(mapper::map(row, text, out))
 }
 
 // check: a sequence against a netlist. The answer is the number of instructions where it passes.

@@ -14,7 +14,7 @@ fn main() {
     println!("gates  call      library µs  second µs  ratio");
     for gates in [16, 64, 128, 256, 512] {
         let netlists = netlists(gates);
-        for call in [evaluate, simulate] {
+        for call in [map, check, simulate, evaluate] {
             call(gates, &netlists);
         }
     }
@@ -84,4 +84,26 @@ fn evaluate(gates: usize, netlists: &[Netlist]) {
         (ours, second)
     });
     print(gates, "evaluate", times.collect());
+}
+
+fn map(gates: usize, netlists: &[Netlist]) {
+    let times = netlists.iter().map(|netlist| {
+        let text = text_of(netlist);
+        let row = (least_row(&text).unwrap_or(256) + 8).min(256);
+        let mut out = vec![0; 16_384];
+        let ours = time(|| _ = black_box(proved::map(row, &text, &mut out)));
+        let second = time(|| _ = black_box(second::map(row, &text, &mut out)));
+        (ours, second)
+    });
+    print(gates, "map", times.collect());
+}
+
+fn check(gates: usize, netlists: &[Netlist]) {
+    let times = netlists.iter().map(|netlist| {
+        let (text, sequence) = (text_of(netlist), sequence(netlist));
+        let ours = time(|| _ = black_box(proved::check(&text, &sequence)));
+        let second = time(|| _ = black_box(second::check(&text, &sequence)));
+        (ours, second)
+    });
+    print(gates, "check", times.collect());
 }

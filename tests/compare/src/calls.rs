@@ -1,6 +1,7 @@
 //! Each call made of both sides on the same bytes: how they differ, answer and every lent byte.
 
 use crate::given::Given;
+use crate::programs::run;
 
 /// What two sides said, where it is not the same.
 fn unlike<T: PartialEq + std::fmt::Debug>(call: &str, ours: T, second: T) -> Option<String> {
@@ -48,4 +49,45 @@ pub fn evaluate(given: &Given) -> Option<String> {
     let said = proved::evaluate(text, &given.bytes, &mut ours);
     let due = second::evaluate(text, &given.bytes, &mut theirs);
     unlike("evaluate", (said, ours), (due, theirs))
+}
+
+/// check: texts[0] against texts[1].
+pub fn check(given: &Given) -> Option<String> {
+    let (netlist, sequence) = (&given.texts[0], &given.texts[1]);
+    let due = second::check(netlist, sequence);
+    unlike("check", proved::check(netlist, sequence), due)
+}
+
+/// The checking program on texts[0] and then texts[1].
+pub fn rowcheck(given: &Given) -> Option<String> {
+    let input = given.texts.concat();
+    unlike(
+        "rowcheck",
+        run("rowcheck", &input),
+        second::rowcheck(&input),
+    )
+}
+
+/// map: texts[0] in a row of numbers[0], into a buffer of numbers[1] bytes.
+pub fn map(given: &Given) -> Option<String> {
+    let (mut ours, mut theirs) = (buffer(given.numbers[1]), buffer(given.numbers[1]));
+    let (row, text) = (given.numbers[0], &given.texts[0]);
+    let said = proved::map(row, text, &mut ours);
+    let due = second::map(row, text, &mut theirs);
+    unlike("map", (said, ours), (due, theirs))
+}
+
+/// Every mapped text is passed by the library's own check.
+pub fn mapped_passes(given: &Given) -> Option<String> {
+    let mut out = buffer(given.numbers[1]);
+    let (row, text) = (given.numbers[0], &given.texts[0]);
+    let length = proved::map(row, text, &mut out).ok()?;
+    let refused = proved::check(text, &out[..length]).err()?;
+    Some(format!("check refuses a mapped text with {refused}"))
+}
+
+/// The mapping program on texts[0], the job line, and then texts[1].
+pub fn rowmap(given: &Given) -> Option<String> {
+    let input = given.texts.concat();
+    unlike("rowmap", run("rowmap", &input), second::rowmap(&input))
 }

@@ -3,6 +3,9 @@
 mod calls;
 mod frames;
 mod given;
+mod maps;
+mod pairs;
+mod programs;
 mod rows;
 mod sequences;
 mod tally;
@@ -20,7 +23,7 @@ pub struct Kind {
 }
 
 /// Every kind. Once of a kind is one text with all that is tried of it.
-pub const KINDS: [Kind; 3] = [
+pub const KINDS: [Kind; 5] = [
     Kind {
         name: "frames",
         once: frames::once,
@@ -38,5 +41,15 @@ pub const KINDS: [Kind; 3] = [
         name: "rows",
         once: rows::once,
         numbers: &[("simulate", &[0, 1, 2, 3, 5, 12, 17])],
+    },
+    Kind {
+        name: "pairs",
+        once: pairs::once,
+        numbers: &[("check", &[0, 1, 2, 3, 4, 5, 6, 7, 11, 12, 13, 14, 15, 16])],
+    },
+    Kind {
+        name: "maps",
+        once: maps::once,
+        numbers: &[("map", &[0, 1, 2, 3, 4, 5, 6, 7, 8, 9, 10])],
     },
 ];

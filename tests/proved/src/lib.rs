@@ -1,6 +1,19 @@
 //! The proved calls. An answer is its value, or minus the refusal's number.
 
 extern "C" {
+    fn bhedhmurali_map(
+        row: usize,
+        text: *const u8,
+        text_size: usize,
+        out: *mut u8,
+        out_size: usize,
+    ) -> i64;
+    fn bhedhmurali_check(
+        netlist: *const u8,
+        netlist_size: usize,
+        sequence: *const u8,
+        sequence_size: usize,
+    ) -> i64;
     fn bhedhmurali_read(text: *const u8, text_size: usize) -> i64;
     fn bhedhmurali_tail(text: *const u8, text_size: usize) -> usize;
     fn bhedhmurali_evaluate(
@@ -27,6 +40,22 @@ pub type Answer = Result<usize, u8>;
 
 fn answer(coded: i64) -> Answer {
     usize::try_from(coded).map_err(|_| u8::try_from(-coded).unwrap_or(u8::MAX))
+}
+
+pub fn map(row: u64, text: &[u8], out: &mut [u8]) -> Answer {
+    let row = usize::try_from(row).unwrap_or(usize::MAX);
+    answer(unsafe { bhedhmurali_map(row, text.as_ptr(), text.len(), out.as_mut_ptr(), out.len()) })
+}
+
+pub fn check(netlist: &[u8], sequence: &[u8]) -> Answer {
+    answer(unsafe {
+        bhedhmurali_check(
+            netlist.as_ptr(),
+            netlist.len(),
+            sequence.as_ptr(),
+            sequence.len(),
+        )
+    })
 }
 
 /// 0 where the text is a netlist that reads well.

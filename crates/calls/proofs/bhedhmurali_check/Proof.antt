@@ -1,3 +1,5 @@
+use mathlib.Core.Path.{ap, _∙_}
+use Rattle.calls.specs.Coded.{coded}
 use borrow.Author.Needs.{needs}
 use Rattle.calls.proofs.bhedhmurali_check.Statement.{statement}
 use Rattle.calls.proofs.bhedhmurali_check.Tie as tie
@@ -16,7 +18,7 @@ code-requires c κs = search needs
 
 -- src/lib.rt:42:1
 returns : tie.Need-returns
-returns c = ?
+returns c = c .code .ensures ∙ ap coded (c .before .check .ensures)
 
 pub bhedhmurali-check-spec : {M : Type 1} → statement M
 bhedhmurali-check-spec = tie.close (tie.spec check-requires code-requires returns)
