@@ -1,4 +1,5 @@
 // The bench sheet's run cases: each prints one line, held to the file stdout.
+mod mapping;
 mod reading;
 mod rows;
 mod say;
@@ -7,4 +8,6 @@ fn main() {
     reading::chains();
     reading::run();
     rows::run();
+    mapping::run();
+    mapping::chain();
 }

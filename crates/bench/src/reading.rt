@@ -22,7 +22,7 @@ fn put_gate(out: &mut [u8], at: usize, operand: usize)
 }
 
 // The text of a chain of NOTs with one output; the answer is its length.
-fn put_chain(out: &mut [u8], inputs: usize, gates: usize) -> usize
+pub(crate) fn put_chain(out: &mut [u8], inputs: usize, gates: usize) -> usize
     requires { ⌜ ((1 ≤ inputs) × (inputs ≤ 100)) × ((1 ≤ gates) × (gates ≤ 600)) ⌝ }
 {
     lines::write::put_byte(out, 0, 1);
@@ -43,7 +43,7 @@ fn put_chain(out: &mut [u8], inputs: usize, gates: usize) -> usize
 }
 
 // Room for a chain's text.
-fn room() -> [u8; 8192]
+pub(crate) fn room() -> [u8; 8192]
     ensures { λ r. ⌜ 8192 ≡ length r ⌝ }
 {
     [0; 8192]
