@@ -9,7 +9,7 @@ use Rattle.mapper.proofs.put_body.Tie as tie
 
 returns : tie.Need-returns
 unfolding BodyOf
-returns c = body-no-row _ _ (c .if1 .taken)
+returns c = body-no-row (c .before .before .before .args .n) (c .before .before .before .args .row) (c .if1 .taken)
 
 of-requires : tie.Need-of-requires
 of-requires c κs = search needs
