@@ -1,4 +1,5 @@
 // The bench sheet's run cases: each prints one line, held to the file stdout.
+mod frame;
 mod mapping;
 mod reading;
 mod rows;
@@ -10,4 +11,5 @@ fn main() {
     rows::run();
     mapping::run();
     mapping::chain();
+    frame::run();
 }

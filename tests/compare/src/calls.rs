@@ -91,3 +91,14 @@ pub fn rowmap(given: &Given) -> Option<String> {
     let input = given.texts.concat();
     unlike("rowmap", run("rowmap", &input), second::rowmap(&input))
 }
+
+/// Every sequence that the mapping program prints is passed by the checking program.
+pub fn printed_passes(given: &Given) -> Option<String> {
+    let sequence = run("rowmap", &given.texts.concat());
+    if !sequence.starts_with(b"11") {
+        return None;
+    }
+    let verdict = run("rowcheck", &[&given.texts[1][..], &sequence].concat());
+    let said = String::from_utf8_lossy(&verdict);
+    (!said.starts_with("1E")).then(|| format!("rowcheck says {said:?} of what rowmap printed"))
+}

@@ -23,7 +23,8 @@ pub fn once(r: &mut Random, tally: &mut Tally) {
         ..Given::default()
     };
     tally.note("rowmap", &Ok::<_, u8>(()));
-    hold(calls::rowmap, given);
+    hold(calls::rowmap, given.clone());
+    hold(calls::printed_passes, given);
 }
 
 /// The text is as long as the buffer, one byte longer, or shorter.
