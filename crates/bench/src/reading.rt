@@ -18,7 +18,7 @@ fn put_gate(out: &mut [u8], at: usize, operand: usize)
 {
     lines::write::put_byte(out, at, 2);
     put_word(out, at + 2, operand);
-    lines::write::put(out, at + 6, 10);
+    slices::put8(out, at + 6, 10);
 }
 
 // The text of a chain of NOTs with one output; the answer is its length.
@@ -29,7 +29,7 @@ pub(crate) fn put_chain(out: &mut [u8], inputs: usize, gates: usize) -> usize
     lines::write::put_byte(out, 2, (inputs % 256) as u8);
     put_word(out, 4, gates);
     lines::write::put_byte(out, 8, 1);
-    lines::write::put(out, 10, 10);
+    slices::put8(out, 10, 10);
     let mut j = 0;
     while j < gates {
         put_gate(out, 11 + 7 * j, inputs - 1 + j);
@@ -38,7 +38,7 @@ pub(crate) fn put_chain(out: &mut [u8], inputs: usize, gates: usize) -> usize
     let end = 11 + 7 * gates;
     lines::write::put_byte(out, end, 3);
     put_word(out, end + 2, inputs + gates - 1);
-    lines::write::put(out, end + 6, 10);
+    slices::put8(out, end + 6, 10);
     end + 7
 }
 

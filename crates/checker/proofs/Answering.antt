@@ -25,7 +25,6 @@ use Rattle.netlist.specs.Flat.{from, netlistIn}
 use Rattle.netlist.specs.Well.{Well}
 use Rattle.netlist.specs.Keys.{keysIn}
 use Rattle.netlist.proofs.Arrays.{length-from}
-use Rattle.netlist.proofs.Well.{lines-of}
 use Rattle.netlist.proofs.FlatWell.{flat}
 use Rattle.index.specs.declared.Chains.{Chains}
 use Rattle.index.specs.Chains.{chained}
@@ -44,7 +43,7 @@ use Rattle.checker.proofs.Working.{passed, stopped, worked-means}
 
 module _ (n : Netlist) (text : List ℕ) (h : Head) (a : Agreed n text h) where
   pub outputs-few : n .outputs ≤ 64
-  outputs-few = flat n (lines-of (netlistIn n) (a .well)) .outputsMost
+  outputs-few = flat n (a .well .lines) .outputsMost
 
   module _ (keys : List ℕ) (ch : Chains) (b : Book) (o : Outcome) (keyed : keys ≡ keysIn n) (linked : ch ≡ chained keys (min (n .gates) 512))
       (begun : b ≡ firstOf (h .row) (n .inputs)) (worked : o ≡ workedOf keys (ch .heads) (ch .next) text (h .instructions) (h .code) b) where

@@ -22,7 +22,6 @@ use Rattle.netlist.specs.declared.Netlist.{Netlist}
 use Rattle.netlist.specs.Flat.{gatesIn, netlistIn}
 use Rattle.netlist.specs.Well.{Well}
 use Rattle.netlist.specs.Keys.{foundGate}
-use Rattle.netlist.proofs.Well.{lines-of}
 use Rattle.netlist.proofs.FlatWell.{flat}
 use Rattle.netlist.proofs.Finding.{finds}
 use Rattle.index.specs.declared.Found.{Found}
@@ -96,15 +95,15 @@ module _ (n : Netlist) (w : Well (netlistIn n)) where
   -- no gate has no operand, more than four, or one past 1023
   none-empty : gateWith [] (n .inputs) gates ≡ none
   unfolding netlistIn
-  none-empty = none-with [] (n .inputs) gates (λ j u e. omega (arith, w .some j u, ap length e))
+  none-empty = none-with [] (n .inputs) gates (λ j u e. omega (arith, w .lines .some j u, ap length e))
 
   none-long : (l : List ℕ) → 4 < length l → gateWith l (n .inputs) gates ≡ none
   unfolding netlistIn
-  none-long l h = none-with l (n .inputs) gates (λ j u e. omega (arith, w .few j, ap length e))
+  none-long l h = none-with l (n .inputs) gates (λ j u e. omega (arith, w .lines .few j, ap length e))
 
   none-past : (l : List ℕ) (s : ℕ) → mem s l ≡ true → 1024 ≤ s → gateWith l (n .inputs) gates ≡ none
   unfolding netlistIn
-  none-past l s m h = none-with l (n .inputs) gates (λ j u e. omega (arith, w .lower j s (rw e m), w .inputsMost, w .gatesMost))
+  none-past l s m h = none-with l (n .inputs) gates (λ j u e. omega (arith, w .lines .lower j s (rw e m), w .lines .inputsMost, w .lines .gatesMost))
 
   module _ (keys heads next : List ℕ) (x : Indexed n keys heads next) where
     found-is : (l : List ℕ) → length l ≤ 4 → Low l → gateIn (codeFound (n .inputs) (foundIn keys heads next (keyOf l))) ≡ gateWith l (n .inputs) gates
@@ -112,13 +111,13 @@ module _ (n : Netlist) (w : Well (netlistIn n)) where
     found-is l few low = go (foundIn keys heads next (keyOf l)) refl
       where
         found : foundGate (n .inputs) (foundIn keys heads next (keyOf l)) ≡ gateWith l (n .inputs) gates
-        found = rw (x .headsAre, x .nextAre, x .keysAre) (finds n (flat n (lines-of (netlistIn n) w)) (w .single) l few (low-at l low))
+        found = rw (x .headsAre, x .nextAre, x .keysAre) (finds n (flat n (w .lines)) (w .single) l few (low-at l low))
 
         go : (f : Found) → foundIn keys heads next (keyOf l) ≡ f → gateIn (codeFound (n .inputs) f) ≡ gateWith l (n .inputs) gates
         go (At g) e =
             let z : some (n .inputs + g) ≡ gateWith l (n .inputs) gates = rw e at found in
             let p = gateWith-spec l (n .inputs) gates (n .inputs + g) (sym z) in
-            let c : n .inputs + g + 2 ≡ codeFound (n .inputs) (At g) = code-at (n .inputs) (At g) g refl (w .inputsMost) (omega (arith, p .1, p .2, w .gatesMost)) in
+            let c : n .inputs + g + 2 ≡ codeFound (n .inputs) (At g) = code-at (n .inputs) (At g) g refl (w .lines .inputsMost) (omega (arith, p .1, p .2, w .lines .gatesMost)) in
             rw (← c, add-two (n .inputs + g)) z
         go Nothing e = rw e at found
 

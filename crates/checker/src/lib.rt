@@ -48,7 +48,7 @@ pub fn program(input: &[u8], out: &mut [u8]) -> usize
     ensures { λ r. ⌜ (r ≡ length (rowcheckOutput (now (input .entry)))) × (now (out .exit) ≡ sets (now (out .entry)) 0 (rowcheckOutput (now (input .entry)))) ⌝ }
 {
     if 65536 < input.len() {
-        print::refusal(out, Refusal { number: 1 });
+        lines::write::put_refusal(out, Refusal { number: 1 });
         return 5;
     }
     let a = check_after(input);
@@ -58,7 +58,7 @@ pub fn program(input: &[u8], out: &mut [u8]) -> usize
             7
         }
         Answer::Refused(r) => {
-            print::refusal(out, r);
+            lines::write::put_refusal(out, r);
             5
         }
     }

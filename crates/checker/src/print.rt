@@ -2,18 +2,8 @@
 ghost use mathlib.Core.Path.{_≡_};
 ghost use Prim.Native.Nat.{_<_};
 ghost use lib.Seq.{sets};
-ghost use Rattle.rules.specs.Programs.{refusalLine, cyclesLine};
+ghost use Rattle.rules.specs.Programs.{cyclesLine};
 use lines::write;
-use rules::Refusal;
-
-// 1F and the number in one byte.
-pub(crate) fn refusal(out: &mut [u8], r: Refusal)
-    ensures { λ _. ⌜ now (out .exit) ≡ sets (now (out .entry)) 0 (refusalLine r) ⌝ }
-{
-    write::put_byte(out, 0, 31);
-    write::put_byte(out, 2, r.number);
-    write::put(out, 4, 10);
-}
 
 // 1E and the cycles in two bytes.
 pub(crate) fn cycles(out: &mut [u8], n: usize)
@@ -23,5 +13,5 @@ pub(crate) fn cycles(out: &mut [u8], n: usize)
     write::put_byte(out, 0, 30);
     write::put_byte(out, 2, (n / 256) as u8);
     write::put_byte(out, 4, (n % 256) as u8);
-    write::put(out, 6, 10);
+    slices::put8(out, 6, 10);
 }

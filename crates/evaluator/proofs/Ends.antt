@@ -14,7 +14,7 @@ use Rattle.rules.specs.Form.{form01}
 use Rattle.rules.specs.Refusals.{good, refused, _>>=_, _>>_, require}
 use Rattle.rules.specs.Netlist.{netlistOf}
 use Rattle.rules.specs.Values.{nor, table, values, outputValues, areBits}
-use Rattle.rules.specs.Calls.{delivered, evaluated, evaluateOutcome}
+use Rattle.rules.specs.Calls.{outcomeOf, delivered, evaluated, evaluateOutcome}
 use Rattle.rules.proofs.Laws.{and-true, cons-self, cons-more}
 use Rattle.netlist.specs.declared.Netlist.{Netlist}
 use Rattle.netlist.specs.declared.Reading.{Reading}
@@ -22,7 +22,7 @@ use Rattle.netlist.specs.Flat.{from, gatesIn, netlistIn, readingOf}
 use Rattle.netlist.specs.Well.{WellFlat}
 use Rattle.netlist.proofs.Arrays.{length-from, from-mem}
 use Rattle.netlist.proofs.FlatWell.{read-good, read-flat}
-use Rattle.evaluator.specs.Outcome.{outcomeOf, noValues, valuesAt}
+use Rattle.evaluator.specs.Values.{noValues, valuesAt}
 
 -- ---- lists
 

@@ -8,7 +8,7 @@ use lib.ListN.{getD, length, set, length-set}
 use lib.Seq.{sets}
 use Rattle.netlist.specs.Flat.{from}
 use Rattle.netlist.proofs.Arrays.{from-start, from-turn, from-end}
-use Rattle.evaluator.specs.Outcome.{valuesAt}
+use Rattle.evaluator.specs.Values.{valuesAt}
 
 pub record Handing (values outs : List ℕ) (n : ℕ) (out₀ out : List ℕ) (k : ℕ) : Type 0 where
   pub most : k ≤ n

@@ -1,4 +1,4 @@
-pub mod Bits
+pub mod Copying
 pub mod Worked
 pub mod Handed
 pub mod Ends

@@ -4,34 +4,17 @@ ghost use Prim.Native.Nat.{_+_, _≤_};
 ghost use mathlib.Core.List.{map};
 ghost use lib.ListN.{length, take};
 ghost use lib.Seq.{sets};
-ghost use Rattle.rules.specs.Values.{nor, table, areBits};
-ghost use Rattle.rules.specs.Calls.{evaluateOutcome};
+ghost use Rattle.rules.specs.Values.{nor, table};
+ghost use Rattle.rules.specs.Calls.{outcomeOf, evaluateOutcome};
 ghost use Rattle.netlist.specs.Flat.{from, gatesIn};
 ghost use Rattle.netlist.specs.Well.{WellFlat};
-ghost use Rattle.evaluator.specs.Outcome.{outcomeOf, noValues, valuesAt};
+ghost use Rattle.evaluator.specs.Values.{noValues, valuesAt};
 use netlist::Netlist;
 use rules::Answer;
 use rules::Refusal;
 use slices::at8;
 use slices::at16;
 use slices::put8;
-
-// Whether a slice has n bytes, each 0 or 1.
-fn are_bits(bits: &[u8], n: usize) -> bool
-    ensures { λ r. ⌜ r ≡ areBits n (now (bits .entry)) ⌝ }
-{
-    if bits.len() != n {
-        return false;
-    }
-    let mut i = 0;
-    while i < bits.len() {
-        if 1 < bits[i] {
-            return false;
-        }
-        i += 1;
-    }
-    true
-}
 
 fn no_values() -> [u8; 576]
     ensures { λ r. ⌜ r ≡ noValues ⌝ }
@@ -106,7 +89,7 @@ pub fn evaluate(text: &[u8], inputs: &[u8], out: &mut [u8]) -> Answer
     if refusal.number != 0 {
         return Answer::Refused(refusal);
     }
-    if !are_bits(inputs, n.inputs) {
+    if !slices::are_bits(inputs, n.inputs) {
         return Answer::Refused(Refusal { number: 17 });
     }
     if out.len() < outputs {

@@ -1,7 +1,8 @@
 // Texts: hexadecimal lines read at a place of a slice. Every function takes any slice and any place.
 ghost use mathlib.Core.Path.{_≡_};
 ghost use Prim.Native.Nat.{_+_, _≤_};
-ghost use lib.ListN.{length, drop, getD};
+ghost use lib.ListN.{length, drop};
+ghost use Rattle.rules.specs.Basics.{within};
 ghost use Rattle.rules.specs.Lines.{isDigit, valueOf, digits};
 ghost use Rattle.lines.specs.Line.{lineAt, endsAt, byteAt, wordAt, refusalOf};
 use rules::Answer;
@@ -115,16 +116,6 @@ pub fn ends(text: &[u8], at: usize) -> Answer
     }
 }
 
-// The character at a place, 0 past the end.
-fn char_at(text: &[u8], at: usize) -> u8
-    ensures { λ r. ⌜ r ≡ getD (now (text .entry)) at 0 ⌝ }
-{
-    if at < text.len() {
-        return text[at];
-    }
-    0
-}
-
 // The byte whose two digits stand at a place.
 pub fn byte_at(text: &[u8], at: usize) -> usize
     ensures { λ r. ⌜ r ≡ byteAt (now (text .entry)) at ⌝ }
@@ -133,7 +124,7 @@ pub fn byte_at(text: &[u8], at: usize) -> usize
         return 0;
     }
     let h = value(text[at]);
-    let l = value(char_at(text, at + 1));
+    let l = value(slices::at8(text, at + 1));
     (h as usize) * 16 + (l as usize)
 }
 
@@ -148,4 +139,14 @@ pub fn word_at(text: &[u8], at: usize) -> usize
         return byte_at(text, at) * 256;
     }
     byte_at(text, at) * 256 + byte_at(text, at + 2)
+}
+
+// Whether a number is within its least and its most.
+pub fn is_within(least: usize, most: usize, x: usize) -> bool
+    ensures { λ r. ⌜ r ≡ within least most x ⌝ }
+{
+    if x < least {
+        return false;
+    }
+    x <= most
 }

@@ -2,9 +2,10 @@
 ghost use mathlib.Core.Path.{_≡_};
 ghost use Prim.Native.Nat.{_/_, _%_};
 ghost use mathlib.Core.List.{[], _∷_};
-ghost use lib.ListN.{set};
 ghost use lib.Seq.{sets};
 ghost use Rattle.rules.specs.Lines.{digitOf};
+ghost use Rattle.rules.specs.Programs.{refusalLine};
+use rules::Refusal;
 
 // The digit for the last four bits of a number.
 fn digit(v: u8) -> u8
@@ -17,21 +18,21 @@ fn digit(v: u8) -> u8
     d + 55
 }
 
-// One character at a place.
-pub fn put(out: &mut [u8], at: usize, c: u8)
-    ensures { λ _. ⌜ now (out .exit) ≡ set (now (out .entry)) at c ⌝ }
-{
-    if at < out.len() {
-        out[at] = c;
-    }
-}
-
 // The two digits of a byte at a place.
 pub fn put_byte(out: &mut [u8], at: usize, b: u8)
     ensures { λ _. ⌜ now (out .exit) ≡ sets (now (out .entry)) at (digitOf (b / 16) ∷ digitOf (b % 16) ∷ []) ⌝ }
 {
     if at < out.len() {
-        put(out, at, digit(b / 16));
-        put(out, at + 1, digit(b));
+        slices::put8(out, at, digit(b / 16));
+        slices::put8(out, at + 1, digit(b));
     }
+}
+
+// The line that the programs print for a refusal, at the front: 1F and the number in one byte.
+pub fn put_refusal(out: &mut [u8], r: Refusal)
+    ensures { λ _. ⌜ now (out .exit) ≡ sets (now (out .entry)) 0 (refusalLine r) ⌝ }
+{
+    put_byte(out, 0, 31);
+    put_byte(out, 2, r.number);
+    slices::put8(out, 4, 10);
 }

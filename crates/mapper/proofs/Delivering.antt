@@ -15,7 +15,7 @@ use Rattle.rules.specs.Refusals.{good, refused, refuse, _>>=_, _>>_, require}
 use Rattle.rules.specs.Sequence.{Sequence, headText, sequenceText}
 use Rattle.rules.specs.Netlist.{netlistOf}
 use Rattle.rules.specs.Mapping.{mapped, mappedText}
-use Rattle.rules.specs.Calls.{delivered, mapOutcome}
+use Rattle.rules.specs.Calls.{outcomeOf, delivered, mapOutcome}
 use Rattle.netlist.specs.declared.Netlist.{Netlist}
 use Rattle.netlist.specs.declared.Reading.{Reading}
 use Rattle.netlist.specs.Flat.{netlistIn, readingOf}
@@ -23,7 +23,7 @@ use Rattle.netlist.proofs.FlatWell.{read-good}
 use Rattle.mapper.specs.declared.mapping.Outcome as code
 use Rattle.mapper.specs.declared.mapping.Outcome.the-variants.{Fits, NoRoom}
 use Rattle.mapper.specs.Text.{Written, headLine}
-use Rattle.mapper.specs.Whole.{outcomeOf, textIn, bodyText, Bodied, BodyOf}
+use Rattle.mapper.specs.Whole.{textIn, bodyText, Bodied, BodyOf}
 use Rattle.mapper.proofs.Writing.{sets-append}
 
 -- ---- the text of a netlist that was read

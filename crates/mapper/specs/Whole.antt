@@ -1,24 +1,18 @@
--- The whole mapping of a netlist that was read, and the outcome of the call.
+-- The whole mapping of a netlist that was read.
 -- Assumes nothing.
 use Prim.Native.Nat.{ℕ, _≤_}
 use mathlib.Core.Path.{_≡_}
 use mathlib.Core.List.{List, _++_}
 use lib.ListN.{length}
-use Rattle.rules.specs.declared.Answer.{Answer}
 use Rattle.rules.specs.Form.{form01}
-use Rattle.rules.specs.Refusals.{Res, good, refuse, _>>=_, meaning}
+use Rattle.rules.specs.Refusals.{Res, good, refuse, _>>=_}
 use Rattle.rules.specs.Sequence.{Sequence, instructionText, placeText, texts, sequenceText}
 use Rattle.rules.specs.Mapping.{mapped}
-use Rattle.rules.specs.Calls.{Outcome}
 use Rattle.netlist.specs.declared.Netlist.{Netlist}
 use Rattle.netlist.specs.Flat.{netlistIn}
 use Rattle.mapper.specs.declared.mapping.Outcome as code
 use Rattle.mapper.specs.declared.mapping.Outcome.the-variants.{Fits, NoRoom}
 use Rattle.mapper.specs.Text.{Written}
-
--- the answer of the code and the lent bytes afterwards, as the outcome of a call
-abbrev pub outcomeOf : Answer → List ℕ → Outcome
-outcomeOf r lent = record { answer = meaning r; lent = lent }
 
 -- the sequence's text, from a netlist that was read
 unfoldable pub textIn : Netlist → ℕ → Res (List ℕ)

@@ -6,10 +6,10 @@ ghost use Rattle.rules.specs.Basics.{keep, setAll};
 ghost use Rattle.netlist.specs.Flat.{from};
 ghost use Rattle.mapper.specs.Text.{Written, entry};
 ghost use Rattle.mapper.specs.Held.{ones, firstCells, renewed, spentDigits, Fine, Short, Sought, Renewed, Roomed, isFree, placed, withHeld};
-use lines::write::put;
 use lines::write::put_byte;
 use slices::at8;
 use slices::at16;
+use slices::put8;
 
 // What held says of a cell: it is ready, or spent, or keeps a signal.
 const READY: u8 = 0;
@@ -120,7 +120,7 @@ impl Cells {
             self.held[c] = renew(x);
             c += 1;
         }
-        put(out, p, 10);
+        put8(out, p, 10);
         self.at = p + 1;
         self.next = 0;
         self.lines += 1;

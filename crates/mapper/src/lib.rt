@@ -2,10 +2,10 @@
 ghost use mathlib.Core.Path.{_≡_};
 ghost use Prim.Native.Nat.{_<_, _≤_};
 ghost use lib.ListN.{length};
-ghost use Rattle.rules.specs.Calls.{mapOutcome, delivered};
+ghost use Rattle.rules.specs.Calls.{outcomeOf, mapOutcome, delivered};
 ghost use Rattle.netlist.specs.Well.{WellFlat};
 ghost use Rattle.order.specs.Sort.{zeros};
-ghost use Rattle.mapper.specs.Whole.{outcomeOf, textIn, BodyOf};
+ghost use Rattle.mapper.specs.Whole.{textIn, BodyOf};
 use mapping::Outcome;
 use mapping::run;
 use mapping::seat;

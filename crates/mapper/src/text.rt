@@ -8,10 +8,10 @@ ghost use Rattle.rules.specs.Form.{form01};
 ghost use Rattle.rules.specs.Sequence.{Nor, instructionText, placeText, texts};
 ghost use Rattle.netlist.specs.Flat.{from};
 ghost use Rattle.mapper.specs.Text.{Written, entry, headLine};
-use lines::write::put;
 use lines::write::put_byte;
 use slices::at8;
 use slices::at16;
+use slices::put8;
 
 // A NOR line: the written cell c, then the cells of the k operands from a place on.
 pub(crate) fn put_nor(
@@ -36,7 +36,7 @@ pub(crate) fn put_nor(
         p += 2;
         j += 1;
     }
-    put(out, p, 10);
+    put8(out, p, 10);
     p + 1
 }
 
@@ -46,7 +46,7 @@ fn put_place(out: &mut [u8], at: usize, c: u8) -> usize
 {
     put_byte(out, at, 0x14);
     put_byte(out, at + 2, c);
-    put(out, at + 4, 10);
+    put8(out, at + 4, 10);
     at + 5
 }
 
@@ -76,7 +76,7 @@ pub(crate) fn put_head(out: &mut [u8], row: usize, inputs: usize, outputs: usize
     put_byte(out, 6, outputs as u8);
     put_byte(out, 8, (lines / 256) as u8);
     put_byte(out, 10, (lines % 256) as u8);
-    put(out, 12, 10);
+    put8(out, 12, 10);
 }
 
 // The first n characters of a buffer, from a place on.
@@ -86,7 +86,7 @@ pub(crate) fn copy(buffer: &[u8], n: usize, out: &mut [u8], at: usize)
 {
     let mut i = 0;
     while i < n {
-        put(out, at + i, at8(buffer, i));
+        put8(out, at + i, at8(buffer, i));
         i += 1;
     }
 }

@@ -15,7 +15,7 @@ use Rattle.netlist.specs.declared.Reading.{Reading}
 use Rattle.netlist.specs.Flat.{from, gateIn, gatesIn, netlistIn, readingOf, partOf, frontOf}
 use Rattle.netlist.specs.Well.{Well, WellLines, WellFlat}
 use Rattle.netlist.proofs.Arrays.{length-from, mem-from, length-gate, length-gates, getD-gates}
-use Rattle.netlist.proofs.Well.{well-lines, well, well-front, lines-of}
+use Rattle.netlist.proofs.Well.{well-lines, well, well-front}
 
 module _ (n : Netlist) (w : WellLines (netlistIn n)) where
   abbrev gates : List (List ℕ)
@@ -78,7 +78,7 @@ module _ (text : List ℕ) (r : Reading) (e : readingOf r ≡ netlistOf form01 t
   read-well = well text (netlistIn (r .netlist)) read-good
 
   pub read-flat : WellFlat (r .netlist)
-  read-flat = flat (r .netlist) (lines-of (netlistIn (r .netlist)) read-well)
+  read-flat = flat (r .netlist) (read-well .lines)
 
 -- what `read_front` answers
 module _ (text : List ℕ) (r : Reading) (e : partOf text r ≡ frontOf text) (z : r .refusal .number ≡ 0) where
@@ -90,4 +90,4 @@ module _ (text : List ℕ) (r : Reading) (e : partOf text r ≡ frontOf text) (z
   front-well = well-front text (record { got = netlistIn (r .netlist); tail = drop (r .tail) text }) front-good
 
   pub front-flat : WellFlat (r .netlist)
-  front-flat = flat (r .netlist) (lines-of (netlistIn (r .netlist)) front-well)
+  front-flat = flat (r .netlist) (front-well .lines)

@@ -7,7 +7,6 @@ pub mod OneGate
 pub mod Following
 pub mod Numbered
 pub mod Whole
-pub mod LineWell
 pub mod Well
 pub mod FlatWell
 pub mod Marking

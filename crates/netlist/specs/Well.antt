@@ -29,20 +29,7 @@ pub record WellLines (N : rules.Netlist) : Type 0 where
 
 -- a netlist that was read well
 pub record Well (N : rules.Netlist) : Type 0 where
-  pub inputsLeast : 1 ≤ N .inputs
-  pub inputsMost : N .inputs ≤ 64
-  pub gatesLeast : 1 ≤ length (N .gates)
-  pub gatesMost : length (N .gates) ≤ 512
-  pub outputsLeast : 1 ≤ length (N .outputs)
-  pub outputsMost : length (N .outputs) ≤ 64
-  -- 1 to 4 operand signals, lower than the gate's own, strictly ascending
-  pub some : (j : ℕ) → j < length (N .gates) → 1 ≤ length (getD (N .gates) j [])
-  pub few : (j : ℕ) → length (getD (N .gates) j []) ≤ 4
-  pub lower : (j o : ℕ) → mem o (getD (N .gates) j []) ≡ true → o < N .inputs + j
-  pub ascend : (j : ℕ) → ascending (getD (N .gates) j []) ≡ true
-  -- an output is a gate
-  pub outputsHigh : (o : ℕ) → mem o (N .outputs) ≡ true → N .inputs ≤ o
-  pub outputsLow : (o : ℕ) → mem o (N .outputs) ≡ true → o < N .inputs + length (N .gates)
+  pub lines : WellLines N
   -- every gate is read or an output, no twins
   pub used : allUsed N ≡ true
   pub single : twins (N .gates) ≡ false

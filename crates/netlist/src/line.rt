@@ -4,7 +4,7 @@ ghost use Prim.Native.Nat.{_+_, _*_, _<_, _≤_};
 ghost use lib.Dec.{ltb};
 ghost use lib.ListN.{length};
 ghost use lib.Seq.{sets};
-ghost use Rattle.rules.specs.Basics.{within, all, ascending};
+ghost use Rattle.rules.specs.Basics.{all, ascending};
 ghost use Rattle.lines.specs.Line.{wordsFrom};
 ghost use Rattle.netlist.specs.Flat.{from};
 ghost use Rattle.netlist.specs.Steps.{HeadRead, headNumbers, OperandsRead, GateRead, OutputRead, headRefusal};
@@ -36,26 +36,17 @@ pub(crate) fn refusal(h: Head) -> Refusal
     }
 }
 
-fn is_within(most: usize, n: usize) -> bool
-    ensures { λ r. ⌜ r ≡ within 1 most n ⌝ }
-{
-    if n < 1 {
-        return false;
-    }
-    n <= most
-}
-
 // A head's numbers against the limits: 3.
 fn head_numbers(inputs: usize, gates: usize, outputs: usize) -> Head
     ensures { λ r. ⌜ r ≡ headNumbers inputs gates outputs ⌝ }
 {
-    if !is_within(64, inputs) {
+    if !lines::is_within(1, 64, inputs) {
         return Head::Refused(Refusal { number: 3 });
     }
-    if !is_within(512, gates) {
+    if !lines::is_within(1, 512, gates) {
         return Head::Refused(Refusal { number: 3 });
     }
-    if !is_within(64, outputs) {
+    if !lines::is_within(1, 64, outputs) {
         return Head::Refused(Refusal { number: 3 });
     }
     Head::Of {

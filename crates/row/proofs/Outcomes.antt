@@ -11,11 +11,11 @@ use Rattle.rules.specs.Refusals.{_>>=_, _>>_, require}
 use Rattle.rules.specs.Sequence.{sequenceOf}
 use Rattle.rules.specs.Values.{areBits}
 use Rattle.rules.specs.Device.{execute, run, cycles}
-use Rattle.rules.specs.Calls.{simulated, ranFor, simulateOutcome}
+use Rattle.rules.specs.Calls.{outcomeOf, simulated, ranFor, simulateOutcome}
 use Rattle.row.specs.declared.Head.{Head}
 use Rattle.row.specs.declared.Reading.{Reading}
 use Rattle.row.specs.Decoded.{instructionAt, nextAt, instructionsAt, sequenceIn}
-use Rattle.row.specs.Runs.{runAt, outcomeOf}
+use Rattle.row.specs.Runs.{runAt}
 use Rattle.row.proofs.Listing.{instructions-count}
 
 -- the instructions of a budget are those of the smaller of the budget and the count

@@ -1,4 +1,4 @@
--- The row: a slice of bits, one instruction's work, and the work that is left of a run.
+-- The row: one instruction's work, and the work that is left of a run.
 use Prim.Native.Nat.{ℕ, suc, _+_, _-_, _*_, _<_, _≤_}
 use native.Mathlib.Omega.{arith}
 use native.Mathlib.Numerals.{add-one}
@@ -18,35 +18,6 @@ use Rattle.row.specs.declared.device.Operands.{Operands}
 use Rattle.row.specs.Decoded.{cellsFrom, cellAt, endFrom, norOn, instructionAt, nextAt}
 use Rattle.row.specs.Runs.{operandsAt, lower, writtenOf, runAt}
 use Rattle.row.proofs.Decoding.{named, ended, set-at, nor-at, next-at, Walk}
-
--- ---- so many bytes, each 0 or 1
-
-pub bits-long : (n : ℕ) (row : List ℕ) → (length row ≡ n → ⊥) → false ≡ areBits n row
-unfolding areBits
-bits-long n row h = rw (ne-eqb (length row) n h)
-
--- the bytes from place i on answer for all
-pub record Bits (n : ℕ) (row : List ℕ) (i : ℕ) : Type 0 where
-  pub same : all (λ b. leb b 1) (drop i row) ≡ areBits n row
-
-pub bits-start : (n : ℕ) (row : List ℕ) → length row ≡ n → Bits n row 0
-unfolding areBits
-bits-start n row h = record { same = rw (eq-eqb (length row) n h) }
-
-module _ {n : ℕ} {row : List ℕ} {i : ℕ} (bits : Bits n row i) where
-  pub bits-stop : i < length row → 1 < getD row i 0 → false ≡ areBits n row
-  unfolding all
-  bits-stop h l = let z : all (λ b. leb b 1) (drop i row) ≡ false = rw (drop-cons row i 0 h, lt-leb (getD row i 0) 1 l) in sym z ∙ bits .same
-
-  pub bits-turn : i < length row → getD row i 0 ≤ 1 → Bits n row (i + 1)
-  unfolding all
-  bits-turn h l = record {
-    same = let z : all (λ b. leb b 1) (drop i row) ≡ all (λ b. leb b 1) (drop (i + 1) row) = rw (add-one, drop-cons row i 0 h, le-leb (getD row i 0) 1 l) in sym z ∙ bits .same;
-  }
-
-  pub bits-end : length row ≤ i → true ≡ areBits n row
-  unfolding all
-  bits-end h = let z : all (λ b. leb b 1) (drop i row) ≡ true = rw (drop-of-length-le row h) in sym z ∙ bits .same
 
 -- ---- one instruction
 

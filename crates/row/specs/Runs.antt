@@ -1,14 +1,11 @@
--- What a run does to the row, and the outcome of a simulation.
+-- What a run does to the row.
 -- Assumes nothing.
 use Prim.Native.Nat.{ℕ, zero, suc, _+_}
 use mathlib.Core.List.{List}
 use lib.Dec.{eqb}
-use Rattle.rules.specs.declared.Answer.{Answer}
 use Rattle.rules.specs.Basics.{pick}
-use Rattle.rules.specs.Refusals.{meaning}
 use Rattle.rules.specs.Values.{nor}
 use Rattle.rules.specs.Device.{execute}
-use Rattle.rules.specs.Calls.{Outcome}
 use Rattle.row.specs.declared.device.Operands.{Operands}
 use Rattle.row.specs.Decoded.{cellsFrom, endFrom, instructionAt, nextAt}
 
@@ -28,7 +25,3 @@ writtenOf before value = pick (eqb before 1) value 0
 unfoldable pub runAt : List ℕ → ℕ → ℕ → List ℕ → List ℕ
 runAt text at zero row = row
 runAt text at (suc k) row = runAt text (nextAt text at) k (execute (instructionAt text at) row)
-
--- the answer, and the lent bytes afterwards
-abbrev pub outcomeOf : Answer → List ℕ → Outcome
-outcomeOf r row = record { answer = meaning r; lent = row }

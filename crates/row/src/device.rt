@@ -3,7 +3,6 @@ ghost use mathlib.Core.Path.{_≡_};
 ghost use Prim.Native.Nat.{_+_, _≤_, min};
 ghost use lib.ListN.{length, getD};
 ghost use Rattle.rules.specs.Basics.{setAll};
-ghost use Rattle.rules.specs.Values.{areBits};
 ghost use Rattle.rules.specs.Device.{execute};
 ghost use Rattle.row.specs.Decoded.{cellsFrom, endFrom, norOn, instructionAt, nextAt};
 ghost use Rattle.row.specs.Runs.{operandsAt, lower, writtenOf, runAt};
@@ -26,33 +25,6 @@ pub(crate) fn smaller(a: usize, b: usize) -> usize
     b
 }
 
-// Whether a row is of a length, each byte 0 or 1.
-pub(crate) fn are_bits(row: &[u8], n: usize) -> bool
-    ensures { λ r. ⌜ r ≡ areBits n (now (row .entry)) ⌝ }
-{
-    if row.len() != n {
-        return false;
-    }
-    let mut i = 0;
-    while i < row.len() {
-        if 1 < row[i] {
-            return false;
-        }
-        i += 1;
-    }
-    true
-}
-
-// What a cell holds, 0 past the row's end.
-fn held(row: &[u8], c: usize) -> u8
-    ensures { λ r. ⌜ r ≡ getD (now (row .entry)) c 0 ⌝ }
-{
-    if c < row.len() {
-        return row[c];
-    }
-    0
-}
-
 // Set puts 1 in each cell named from a place on. The answer is the place of the next line.
 fn set_cells(text: &[u8], first: usize, row: &mut [u8]) -> usize
     requires { ⌜ first ≤ length (now text) + 1 ⌝ }
@@ -64,7 +36,7 @@ fn set_cells(text: &[u8], first: usize, row: &mut [u8]) -> usize
         let Entry::Cell(c) = n else {
             return at + 1;
         };
-        lines::write::put(row, c, 1);
+        slices::put8(row, c, 1);
         at += 2;
     }
 }
@@ -94,7 +66,7 @@ fn nor(text: &[u8], first: usize, row: &[u8]) -> Operands
                 next: at + 1,
             };
         };
-        value = lowered(value, held(row, c));
+        value = lowered(value, slices::at8(row, c));
         at += 2;
     }
 }
@@ -119,8 +91,8 @@ fn nor_cells(text: &[u8], first: usize, row: &mut [u8]) -> usize
         return first + 1;
     };
     let o = nor(text, first + 2, row);
-    let v = written(held(row, w), o.value);
-    lines::write::put(row, w, v);
+    let v = written(slices::at8(row, w), o.value);
+    slices::put8(row, w, v);
     o.next
 }
 

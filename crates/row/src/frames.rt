@@ -2,7 +2,6 @@
 ghost use mathlib.Core.Path.{_≡_};
 ghost use Prim.Native.Nat.{_+_, _*_, _<_, _≤_};
 ghost use lib.ListN.{length, drop};
-ghost use Rattle.rules.specs.Basics.{within};
 ghost use Rattle.rules.specs.Form.{form01};
 ghost use Rattle.rules.specs.Lines.{digits};
 ghost use Rattle.rules.specs.Sequence.{setOf, norOf, instructionOf, placeOf};
@@ -42,30 +41,20 @@ pub(crate) fn refusal(a: Answer) -> Refusal
     }
 }
 
-// Whether a number is within its least and its most.
-fn is_within(least: usize, most: usize, x: usize) -> bool
-    ensures { λ r. ⌜ r ≡ within least most x ⌝ }
-{
-    if x < least {
-        return false;
-    }
-    x <= most
-}
-
 // Whether a head's numbers are those of document 01.
 fn numbers_fit(row: usize, inputs: usize, outputs: usize, instructions: usize) -> bool
     ensures { λ r. ⌜ r ≡ numbersFit row inputs outputs instructions ⌝ }
 {
-    if !is_within(2, ROW_MOST, row) {
+    if !lines::is_within(2, ROW_MOST, row) {
         return false;
     }
-    if !is_within(1, INPUTS_MOST, inputs) {
+    if !lines::is_within(1, INPUTS_MOST, inputs) {
         return false;
     }
-    if !is_within(1, OUTPUTS_MOST, outputs) {
+    if !lines::is_within(1, OUTPUTS_MOST, outputs) {
         return false;
     }
-    if !is_within(1, INSTRUCTIONS_MOST, instructions) {
+    if !lines::is_within(1, INSTRUCTIONS_MOST, instructions) {
         return false;
     }
     inputs < row

@@ -2,9 +2,8 @@
 ghost use mathlib.Core.Path.{_≡_};
 ghost use Rattle.rules.specs.Form.{form01};
 ghost use Rattle.rules.specs.Sequence.{sequenceOf};
-ghost use Rattle.rules.specs.Calls.{simulateOutcome};
+ghost use Rattle.rules.specs.Calls.{outcomeOf, simulateOutcome};
 ghost use Rattle.row.specs.Decoded.{cellAt, sequenceIn, refusalIn};
-ghost use Rattle.row.specs.Runs.{outcomeOf};
 use rules::Answer;
 use rules::Refusal;
 
@@ -98,7 +97,7 @@ pub fn simulate(text: &[u8], row: &mut [u8], budget: usize) -> Answer
     let Reading::Sequence(h) = s else {
         return Answer::Refused(refusal(s));
     };
-    if !device::are_bits(row, h.row) {
+    if !slices::are_bits(row, h.row) {
         return Answer::Refused(Refusal { number: 17 });
     }
     let cycles = device::smaller(budget, h.instructions);

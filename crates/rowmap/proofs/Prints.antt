@@ -22,15 +22,6 @@ use Rattle.rowmap.specs.declared.job.Job.{Job}
 use Rattle.rowmap.specs.Job.{jobAt, refusedBy}
 use Rattle.rowmap.proofs.Jobs.{answerOf, job-means}
 
--- the two digits of a byte
-abbrev two : ℕ → List ℕ
-two b = digitOf (b / 16) ∷ digitOf (b % 16) ∷ []
-
-pub refusal-put : (o o₁ o₂ o₃ : List ℕ) (r : Refusal) → o₁ ≡ sets o 0 (two 31) → o₂ ≡ sets o₁ 2 (two (r .number)) → o₃ ≡ set o₂ 4 10
-    → (_≡_ {A = ℕ} 5 5) × (o₃ ≡ sets o 0 (refusalLine r))
-unfolding refusalLine written
-refusal-put o o₁ o₂ o₃ r e₁ e₂ e₃ = (refl, rw (e₃, e₂, e₁))
-
 -- ---- a refusal's line at the front of the buffer
 
 line-long : (r : Refusal) → length (refusalLine r) ≡ 5

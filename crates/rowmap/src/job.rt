@@ -1,9 +1,7 @@
 // From the bytes of standard input to the bytes of standard output.
 ghost use mathlib.Core.Path.{_≡_};
 ghost use lib.ListN.{length, take};
-ghost use lib.Seq.{sets};
 ghost use Rattle.rules.specs.Calls.{rowmapOutput};
-ghost use Rattle.rules.specs.Programs.{refusalLine};
 ghost use Rattle.rowmap.specs.Job.{jobAt, refusedBy};
 use lines::Line;
 use rules::Answer;
@@ -42,31 +40,26 @@ fn read_job(input: &[u8]) -> Job
     Job::Row(lines::byte_at(input, 2) + 1)
 }
 
-// 1F and the number in one byte; the answer is the line's length.
-fn put_refusal(out: &mut [u8], r: Refusal) -> usize
-    ensures { λ n. ⌜ (n ≡ 5) × (now (out .exit) ≡ sets (now (out .entry)) 0 (refusalLine r)) ⌝ }
-{
-    lines::write::put_byte(out, 0, 31);
-    lines::write::put_byte(out, 2, r.number);
-    lines::write::put(out, 4, 10);
-    5
-}
-
 // What the mapping program prints, in the first bytes of a buffer of as many bytes as a program holds; the answer is its length.
 pub(crate) fn program(input: &[u8], out: &mut [u8]) -> usize
     ensures { λ r. ⌜ (length (now (out .entry)) ≡ 65536 → take r (now (out .exit)) ≡ rowmapOutput (now (input .entry))) ⌝ }
 {
     if 65536 < input.len() {
-        return put_refusal(out, Refusal { number: 1 });
+        lines::write::put_refusal(out, Refusal { number: 1 });
+        return 5;
     }
     let j = read_job(input);
     let Job::Row(row) = j else {
-        return put_refusal(out, refusal(j));
+        lines::write::put_refusal(out, refusal(j));
+        return 5;
     };
     let netlist = slices::rest8(input, 5);
     let a = mapper::map(row, netlist, out);
     match a {
         Answer::Given(n) => n,
-        Answer::Refused(r) => put_refusal(out, r),
+        Answer::Refused(r) => {
+            lines::write::put_refusal(out, r);
+            5
+        }
     }
 }

@@ -36,7 +36,12 @@ pub record WellGate (own : ℕ) (os : List ℕ) : Type 0 where
   pub lower : (o : ℕ) → mem o os ≡ true → o < own
   pub rising : ascending os ≡ true
 
--- a netlist whose gates are well-formed, with no twins, whose outputs are gates
+-- a netlist whose gates are well-formed and whose outputs are gates: its lines read well
+pub record WellLines (N : Netlist) : Type 0 where
+  pub gate : (j : ℕ) → j < length (N .gates) → WellGate (N .inputs + j) (getD (N .gates) j [])
+  pub output : (o : ℕ) → mem o (N .outputs) ≡ true → (N .inputs ≤ o) × (o < N .inputs + length (N .gates))
+
+-- the same, with no twins
 pub record Well (N : Netlist) : Type 0 where
   pub gate : (j : ℕ) → j < length (N .gates) → WellGate (N .inputs + j) (getD (N .gates) j [])
   pub single : twins (N .gates) ≡ false
@@ -99,35 +104,48 @@ module _ (F : Form) where
       let (u, v) = and-true (leb (h .inputs) (getD ns 0 0)) (ltb (getD ns 0 0) (h .inputs + h .gates)) p in
       rw (← good-same _ o q) (leb-true (h .inputs) (getD ns 0 0) u, ltb-true (getD ns 0 0) (h .inputs + h .gates) v)
 
-  -- what the lines give, before twins are looked for
-  lines-well : (text : List ℕ) (p : Part Netlist) → netlistLines F text ≡ good p → twins (p .got .gates) ≡ false → Well (p .got) × Sized F (p .got)
+  -- what the lines give, before 6 and 7 are asked
+  pub lines-well : (text : List ℕ) (p : Part Netlist) → netlistLines F text ≡ good p → WellLines (p .got) × Sized F (p .got)
   unfolding netlistLines
-  lines-well text p e tw =
-      from-bind (Well (p .got) × Sized F (p .got)) (line F text) _ p e λ l _ b.
-      from-bind (Well (p .got) × Sized F (p .got)) (headOf F (l .bytes)) _ p b λ h c d.
-      from-bind (Well (p .got) × Sized F (p .got)) (lines F (gateOf F) (h .gates) (h .inputs) [] (l .rest)) _ p d λ gs f g.
-      from-bind (Well (p .got) × Sized F (p .got)) (lines F (λ _. outputOf F h) (h .outputs) 0 [] (gs .tail)) _ p g λ os i j.
+  lines-well text p e =
+      from-bind (WellLines (p .got) × Sized F (p .got)) (line F text) _ p e λ l _ b.
+      from-bind (WellLines (p .got) × Sized F (p .got)) (headOf F (l .bytes)) _ p b λ h c d.
+      from-bind (WellLines (p .got) × Sized F (p .got)) (lines F (gateOf F) (h .gates) (h .inputs) [] (l .rest)) _ p d λ gs f g.
+      from-bind (WellLines (p .got) × Sized F (p .got)) (lines F (λ _. outputOf F h) (h .outputs) 0 [] (gs .tail)) _ p g λ os i j.
       let z : record { inputs = h .inputs; gates = gs .got; outputs = os .got } ≡ p .got = ap (λ (q : Part Netlist). q .got) (good-same _ p j) in
       let H = head-read (l .bytes) h c in
       let (gates, gq, gn, ge) = lines-read F (gateOf F) WellGate gate-read (h .gates) (h .inputs) [] (l .rest) gs f in
       let (outs, oq, on, oe) =
       lines-read F (λ _. outputOf F h) (λ _ o. (h .inputs ≤ o) × (o < h .inputs + h .gates)) (λ _. output-read h) (h .outputs) 0 [] (gs .tail) os i in
-      let tw′ : twins (gs .got) ≡ false = rw (← z) at tw in
       rw (← z) (
         record {
           gate = λ j k. rw gq (each-at WellGate (h .inputs) gates [] ge j (rw gq at k));
-          single = tw′;
           output = λ o m. let w = each-mem (λ o. (h .inputs ≤ o) × (o < h .inputs + h .gates)) 0 outs oe o (rw oq at m) in rw (gq, gn) w;
         },
         record { inputs = H .inputs; gates = rw (gq, gn) (H .gates); outputs = rw (oq, on) (H .outputs) },
       )
 
+-- what 6 and 7 leave
+pub record Formed (N M : Netlist) : Type 0 where
+  pub same : N ≡ M
+  pub used : allUsed N ≡ true
+  pub single : twins (N .gates) ≡ false
+  pub distinct : repeats (N .outputs) ≡ false
+
+pub formed : (N M : Netlist) → wellFormed N ≡ good M → Formed N M
+unfolding wellFormed
+formed N M e =
+    from-require (Formed N M) (allUsed N) 6 _ M e λ u s.
+    from-require (Formed N M) (not (twins (N .gates))) 7 _ M s λ t v.
+    from-require (Formed N M) (not (repeats (N .outputs))) 7 _ M v λ w x.
+    record { same = good-same N M x; used = u; single = not-true (twins (N .gates)) t; distinct = not-true (repeats (N .outputs)) w }
+
+module _ (F : Form) where
   pub netlist-read : (text : List ℕ) (N : Netlist) → netlistOf F text ≡ good N → Well N × Sized F N
-  unfolding netlistOf wellFormed
+  unfolding netlistOf
   netlist-read text N e =
       from-bind (Well N × Sized F N) (netlistLines F text) _ N e λ p a b.
       let (u, c, d) = then-good (nothing F (p .tail)) (wellFormed (p .got)) N b in
-      from-require (Well N × Sized F N) (allUsed (p .got)) 6 _ N d λ _ s.
-      from-require (Well N × Sized F N) (not (twins (p .got .gates))) 7 _ N s λ t v.
-      from-require (Well N × Sized F N) (not (repeats (p .got .outputs))) 7 _ N v λ w x.
-      rw (← good-same (p .got) N x) (lines-well text p a (not-true (twins (p .got .gates)) t))
+      let f = formed (p .got) N d in
+      let (L, Z) = lines-well F text p a in
+      rw (← f .same) (record { gate = L .gate; single = f .single; output = L .output }, Z)

@@ -5,9 +5,10 @@ use mathlib.Core.Bool.{Bool, true, false}
 use mathlib.Core.List.{List, _++_}
 use lib.Dec.{ltb}
 use lib.ListN.{length, drop}
+use Rattle.rules.specs.declared.Answer.{Answer}
 use Rattle.rules.specs.Basics.{pick}
 use Rattle.rules.specs.Form.{Form, form01}
-use Rattle.rules.specs.Refusals.{Res, good, refused, refuse, _>>=_, _>>_, require}
+use Rattle.rules.specs.Refusals.{Res, good, refused, refuse, _>>=_, _>>_, require, meaning}
 use Rattle.rules.specs.Lines.{frameAt, placeAfter}
 use Rattle.rules.specs.Netlist.{Netlist, netlistOf, netlistTail}
 use Rattle.rules.specs.Sequence.{Sequence, sequenceOf}
@@ -21,6 +22,10 @@ use Rattle.rules.specs.Programs.{mappingProgram, checkingProgram}
 pub record Outcome : Type 0 where
   pub answer : Res ℕ
   pub lent : List ℕ
+
+-- an answer of the code and the lent bytes after it
+abbrev pub outcomeOf : Answer → List ℕ → Outcome
+outcomeOf r lent = record { answer = meaning r; lent = lent }
 
 -- A refusal returns its number only. Every lent buffer keeps every byte.
 -- The text fills the first bytes of the lent buffer, the rest stays, and the answer is its length; 10 exactly when the text is longer than the buffer.

@@ -1,6 +1,7 @@
 // Entries of lent slices: 0 past the end, and a write past the end changes nothing. So every call takes any slice and any place.
 ghost use mathlib.Core.Path.{_≡_};
 ghost use lib.ListN.{getD, set, drop};
+ghost use Rattle.rules.specs.Values.{areBits};
 
 pub fn at8(s: &[u8], i: usize) -> u8
     ensures { λ r. ⌜ r ≡ getD (now (s .entry)) i 0 ⌝ }
@@ -62,4 +63,21 @@ pub fn rest8(s: &[u8], at: usize) -> &[u8]
     }
     let end = s.len();
     &s[end..]
+}
+
+// Whether a slice has n bytes, each 0 or 1.
+pub fn are_bits(s: &[u8], n: usize) -> bool
+    ensures { λ r. ⌜ r ≡ areBits n (now (s .entry)) ⌝ }
+{
+    if s.len() != n {
+        return false;
+    }
+    let mut i = 0;
+    while i < s.len() {
+        if 1 < s[i] {
+            return false;
+        }
+        i += 1;
+    }
+    true
 }

@@ -1,7 +1,7 @@
 use Prim.Native.Nat.{_-_}
 use borrow.Author.Needs.{needs}
 use lib.ListN.{length}
-use Rattle.evaluator.proofs.Bits.{Copying, copying-start, copying-turn, copying-end}
+use Rattle.evaluator.proofs.Copying.{Copying, copying-start, copying-turn, copying-end}
 use Rattle.evaluator.proofs.copy_in.Statement.{statement}
 use Rattle.evaluator.proofs.copy_in.Tie as tie
 use Rattle.evaluator.proofs.copy_in.Reads as reads

@@ -7,7 +7,7 @@ use Rattle.evaluator.proofs.evaluate.Statement.{statement}
 use Rattle.evaluator.proofs.evaluate.Tie as tie
 use Rattle.evaluator.proofs.evaluate.Reads as reads
 use Rattle.evaluator.proofs.evaluate.Lts as lts
-use Rattle.evaluator.proofs.are_bits.Reads as are-bits-reads
+use Rattle.slices.proofs.are_bits.Reads as are-bits-reads
 use Rattle.evaluator.proofs.copy_in.Reads as copy-in-reads
 use Rattle.evaluator.proofs.hand_out.Reads as hand-out-reads
 use Rattle.evaluator.proofs.no_values.Reads as no-values-reads

@@ -1,5 +1,5 @@
 use mathlib.Core.Path.{refl}
-use Rattle.evaluator.specs.Outcome.{noValues}
+use Rattle.evaluator.specs.Values.{noValues}
 use Rattle.evaluator.proofs.no_values.Statement.{statement}
 use Rattle.evaluator.proofs.no_values.Tie as tie
 use Rattle.evaluator.proofs.no_values.Reads as reads

@@ -7,7 +7,7 @@ use Rattle.lines.proofs.byte_at.Statement.{statement}
 use Rattle.lines.proofs.byte_at.Tie as tie
 use Rattle.lines.proofs.byte_at.Reads as reads
 use Rattle.lines.proofs.byte_at.Lts as lts
-use Rattle.lines.proofs.char_at.Reads as char-at-reads
+use Rattle.slices.proofs.at8.Reads as at8-reads
 use Rattle.lines.proofs.value.Reads as value-reads
 
 -- src/lib.rt:117:9
@@ -23,12 +23,12 @@ value-requires : tie.Need-value-requires
 value-requires c κs = search needs
 
 -- src/lib.rt:120:33
-add-char-at : tie.Need-add-char-at
-add-char-at c = search needs
+add-at8 : tie.Need-add-at8
+add-at8 c = search needs
 
 -- src/lib.rt:120:19
-char-at-requires : tie.Need-char-at-requires
-char-at-requires c κs = search needs
+at8-requires : tie.Need-at8-requires
+at8-requires c κs = search needs
 
 -- src/lib.rt:120:9
 value-requires-2 : tie.Need-value-requires-2
@@ -53,7 +53,7 @@ add-result c = search needs
 -- src/lib.rt:113:1
 returns-2 : tie.Need-returns-2
 unfolding byteAt
-returns-2 c = simp (c .before .before .value .ensures, c .value2 .ensures, c .before .char-at .ensures) (omega arith)
+returns-2 c = simp (c .before .before .value .ensures, c .value2 .ensures, c .before .at8 .ensures) (omega arith)
 
 pub byte-at-spec : {M : Type 1} → statement M
 byte-at-spec =
@@ -62,8 +62,8 @@ byte-at-spec =
     returns
     shared-slice-read-value
     value-requires
-    add-char-at
-    char-at-requires
+    add-at8
+    at8-requires
     value-requires-2
     cast-result
     mul-result

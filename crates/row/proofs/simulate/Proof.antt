@@ -2,14 +2,14 @@ use mathlib.Core.Path.{sym, ap, _∙_}
 use borrow.Author.Tests.{not-true, not-false}
 use Rattle.rules.specs.declared.Answer.{Answer}
 use Rattle.row.specs.Decoded.{refusalIn}
-use Rattle.row.specs.Runs.{outcomeOf}
+use Rattle.rules.specs.Calls.{outcomeOf}
 use Rattle.row.proofs.Outcomes.{refused-outcome, bits-outcome, ran-outcome}
 use borrow.Author.Needs.{needs}
 use Rattle.row.proofs.simulate.Statement.{statement}
 use Rattle.row.proofs.simulate.Tie as tie
 use Rattle.row.proofs.simulate.Reads as reads
 use Rattle.row.proofs.simulate.Lts as lts
-use Rattle.row.proofs.device.are_bits.Reads as are-bits-reads
+use Rattle.slices.proofs.are_bits.Reads as are-bits-reads
 use Rattle.row.proofs.device.run.Reads as run-reads
 use Rattle.row.proofs.device.smaller.Reads as smaller-reads
 use Rattle.row.proofs.read.Reads as read-reads

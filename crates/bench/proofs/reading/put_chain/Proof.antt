@@ -9,7 +9,7 @@ use Rattle.bench.proofs.reading.put_chain.Reads as reads
 use Rattle.bench.proofs.reading.put_chain.Lts as lts
 use Rattle.bench.proofs.reading.put_gate.Reads as put-gate-reads
 use Rattle.bench.proofs.reading.put_word.Reads as put-word-reads
-use Rattle.lines.proofs.write.put.Reads as put-reads
+use Rattle.slices.proofs.put8.Reads as put8-reads
 use Rattle.lines.proofs.write.put_byte.Reads as put-byte-reads
 
 abbrev Inv-loop : tie.InvT-loop
@@ -39,8 +39,8 @@ put-byte-requires-3 : tie.Need-put-byte-requires-3 Inv-loop μ-loop
 put-byte-requires-3 c κs = search needs
 
 -- src/reading.rt:31:5
-put-requires : tie.Need-put-requires Inv-loop μ-loop
-put-requires c κs = search needs
+put8-requires : tie.Need-put8-requires Inv-loop μ-loop
+put8-requires c κs = search needs
 
 -- src/reading.rt:33:5
 loop-holds : tie.Need-loop-holds Inv-loop μ-loop
@@ -107,12 +107,12 @@ put-word-requires-2 : tie.Need-put-word-requires-2 Inv-loop μ-loop
 put-word-requires-2 c κs = search needs
 
 -- src/reading.rt:40:28
-add-put : tie.Need-add-put Inv-loop μ-loop
-add-put c = search needs
+add-put8 : tie.Need-add-put8 Inv-loop μ-loop
+add-put8 c = search needs
 
 -- src/reading.rt:40:5
-put-requires-2 : tie.Need-put-requires-2 Inv-loop μ-loop
-put-requires-2 c κs = search needs
+put8-requires-2 : tie.Need-put8-requires-2 Inv-loop μ-loop
+put8-requires-2 c κs = search needs
 
 -- src/reading.rt:41:5
 add-result : tie.Need-add-result Inv-loop μ-loop
@@ -137,7 +137,7 @@ put-chain-spec =
     put-byte-requires-2
     put-word-requires
     put-byte-requires-3
-    put-requires
+    put8-requires
     loop-holds
     mul-put-gate
     add-put-gate
@@ -154,8 +154,8 @@ put-chain-spec =
     add-put-word-2
     sub-put-word
     put-word-requires-2
-    add-put
-    put-requires-2
+    add-put8
+    put8-requires-2
     add-result
     same-length
     returns)

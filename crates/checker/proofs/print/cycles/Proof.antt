@@ -4,7 +4,7 @@ use Rattle.checker.proofs.print.cycles.Statement.{statement}
 use Rattle.checker.proofs.print.cycles.Tie as tie
 use Rattle.checker.proofs.print.cycles.Reads as reads
 use Rattle.checker.proofs.print.cycles.Lts as lts
-use Rattle.lines.proofs.write.put.Reads as put-reads
+use Rattle.slices.proofs.put8.Reads as put8-reads
 use Rattle.lines.proofs.write.put_byte.Reads as put-byte-reads
 
 -- src/print.rt:23:5
@@ -28,8 +28,8 @@ put-byte-requires-3 : tie.Need-put-byte-requires-3
 put-byte-requires-3 c κs = search needs
 
 -- src/print.rt:26:5
-put-requires : tie.Need-put-requires
-put-requires c κs = search needs
+put8-requires : tie.Need-put8-requires
+put8-requires c κs = search needs
 
 -- src/print.rt:19:1
 same-length : tie.Need-same-length
@@ -37,7 +37,7 @@ same-length c = search needs
 
 -- src/print.rt:19:1
 returns : tie.Need-returns
-returns c = cycles-put _ _ _ _ _ _ (c .before .before .before .before .before .before .before .before .before .before .before .before .before .before .put-byte .ensures) (c .before .before .before .before .before .before .before .before .before .before .put-byte2 .ensures) (c .before .before .before .before .before .before .put-byte3 .ensures) (c .before .before .put .ensures)
+returns c = cycles-put _ _ _ _ _ _ (c .before .before .before .before .before .before .before .before .before .before .before .before .before .before .put-byte .ensures) (c .before .before .before .before .before .before .before .before .before .before .put-byte2 .ensures) (c .before .before .before .before .before .before .put-byte3 .ensures) (c .before .before .put8 .ensures)
 
 pub cycles-spec : {M : Type 1} → statement M
 cycles-spec =
@@ -48,6 +48,6 @@ cycles-spec =
     put-byte-requires-2
     cast-put-byte-2
     put-byte-requires-3
-    put-requires
+    put8-requires
     same-length
     returns)

@@ -7,27 +7,27 @@ use Rattle.lines.proofs.write.put_byte.Tie as tie
 use Rattle.lines.proofs.write.put_byte.Reads as reads
 use Rattle.lines.proofs.write.put_byte.Lts as lts
 use Rattle.lines.proofs.write.digit.Reads as digit-reads
-use Rattle.lines.proofs.write.put.Reads as put-reads
+use Rattle.slices.proofs.put8.Reads as put8-reads
 
 -- src/write.rt:34:22
 digit-requires : tie.Need-digit-requires
 digit-requires c κs = search needs
 
 -- src/write.rt:34:9
-put-requires : tie.Need-put-requires
-put-requires c κs = search needs
+put8-requires : tie.Need-put8-requires
+put8-requires c κs = search needs
 
 -- src/write.rt:35:18
-add-put : tie.Need-add-put
-add-put c = search needs
+add-put8 : tie.Need-add-put8
+add-put8 c = search needs
 
 -- src/write.rt:35:26
 digit-requires-2 : tie.Need-digit-requires-2
 digit-requires-2 c κs = search needs
 
 -- src/write.rt:35:9
-put-requires-2 : tie.Need-put-requires-2
-put-requires-2 c κs = search needs
+put8-requires-2 : tie.Need-put8-requires-2
+put8-requires-2 c κs = search needs
 
 -- src/write.rt:30:1
 same-length : tie.Need-same-length
@@ -35,7 +35,7 @@ same-length c = search needs
 
 -- src/write.rt:30:1
 returns : tie.Need-returns
-returns c = pair-put (c .before .before .before .before .before .before .before .before .before .before .before .before .args .out .now) _ _ _ (c .before .before .before .before .before .before .before .before .before .before .before .before .args .b) _ _ (omega arith) (c .before .before .before .before .before .before .before .before .digit .ensures) (c .before .before .before .before .before .before .before .put .ensures) (c .before .before .before .digit2 .ensures) (c .before .before .put2 .ensures)
+returns c = pair-put (c .before .before .before .before .before .before .before .before .before .before .before .before .args .out .now) _ _ _ (c .before .before .before .before .before .before .before .before .before .before .before .before .args .b) _ _ (omega arith) (c .before .before .before .before .before .before .before .before .digit .ensures) (c .before .before .before .before .before .before .before .put8 .ensures) (c .before .before .before .digit2 .ensures) (c .before .before .put82 .ensures)
 
 -- src/write.rt:30:1
 returns-2 : tie.Need-returns-2
@@ -46,10 +46,10 @@ put-byte-spec =
     tie.close
     (tie.spec
     digit-requires
-    put-requires
-    add-put
+    put8-requires
+    add-put8
     digit-requires-2
-    put-requires-2
+    put8-requires-2
     same-length
     returns
     returns-2)

@@ -13,14 +13,14 @@ abbrev μ-loop : tie.MeasureT-loop
 loop-holds : tie.Need-loop-holds Inv-loop μ-loop
 loop-holds c = copying-start
 
-add-put : tie.Need-add-put Inv-loop μ-loop
-add-put c = search needs
+add-put8 : tie.Need-add-put8 Inv-loop μ-loop
+add-put8 c = search needs
 
 at8-requires : tie.Need-at8-requires Inv-loop μ-loop
 at8-requires c κs = search needs
 
-put-requires : tie.Need-put-requires Inv-loop μ-loop
-put-requires c κs = search needs
+put8-requires : tie.Need-put8-requires Inv-loop μ-loop
+put8-requires c κs = search needs
 
 add-i : tie.Need-add-i Inv-loop μ-loop
 add-i c = search needs
@@ -29,7 +29,7 @@ loop-less : tie.Need-loop-less Inv-loop μ-loop
 loop-less c = search needs
 
 loop-again : tie.Need-loop-again Inv-loop μ-loop
-loop-again c = copying-turn (c .before .before .before .before .before .before .before .before .before .pre .0) (c .before .before .before .before .before .before .loop .inv) (c .before .before .before .before .before .loop-test .taken) (c .before .before .before .at8 .ensures) (c .before .before .put .ensures)
+loop-again c = copying-turn (c .before .before .before .before .before .before .before .before .before .pre .0) (c .before .before .before .before .before .before .loop .inv) (c .before .before .before .before .before .loop-test .taken) (c .before .before .before .at8 .ensures) (c .before .before .put8 .ensures)
 
 same-length : tie.Need-same-length Inv-loop μ-loop
 same-length c = c .before .loop .inv .wide
@@ -44,9 +44,9 @@ copy-spec =
     Inv-loop
     μ-loop
     loop-holds
-    add-put
+    add-put8
     at8-requires
-    put-requires
+    put8-requires
     add-i
     loop-less
     loop-again

@@ -42,8 +42,8 @@ cast-put-byte-5 c = search needs
 put-byte-requires-6 : tie.Need-put-byte-requires-6
 put-byte-requires-6 c κs = search needs
 
-put-requires : tie.Need-put-requires
-put-requires c κs = search needs
+put8-requires : tie.Need-put8-requires
+put8-requires c κs = search needs
 
 same-length : tie.Need-same-length
 same-length c = search needs
@@ -51,7 +51,7 @@ same-length c = search needs
 returns : tie.Need-returns
 unfolding headLine
 returns c = let a = c .before .before .before .before .before .before .before .before .before .before .before .before .before .before .before .before .before .before .before .before .before .before .before .before .before .before .before .before .before .args in
-    record { is = head-put (a .out .now) (a .row - 1) (a .inputs) (a .outputs) (a .lines / 256) (a .lines % 256) (c .before .before .before .before .before .before .before .before .before .before .before .before .before .before .before .before .before .before .before .before .before .before .before .before .before .before .put-byte .ensures) (c .before .before .before .before .before .before .before .before .before .before .before .before .before .before .before .before .before .before .before .before .before .before .put-byte2 .ensures) (c .before .before .before .before .before .before .before .before .before .before .before .before .before .before .before .before .before .before .put-byte3 .ensures) (c .before .before .before .before .before .before .before .before .before .before .before .before .before .before .put-byte4 .ensures) (c .before .before .before .before .before .before .before .before .before .before .put-byte5 .ensures) (c .before .before .before .before .before .before .put-byte6 .ensures) (c .before .before .put .ensures); end = refl }
+    record { is = head-put (a .out .now) (a .row - 1) (a .inputs) (a .outputs) (a .lines / 256) (a .lines % 256) (c .before .before .before .before .before .before .before .before .before .before .before .before .before .before .before .before .before .before .before .before .before .before .before .before .before .before .put-byte .ensures) (c .before .before .before .before .before .before .before .before .before .before .before .before .before .before .before .before .before .before .before .before .before .before .put-byte2 .ensures) (c .before .before .before .before .before .before .before .before .before .before .before .before .before .before .before .before .before .before .put-byte3 .ensures) (c .before .before .before .before .before .before .before .before .before .before .before .before .before .before .put-byte4 .ensures) (c .before .before .before .before .before .before .before .before .before .before .put-byte5 .ensures) (c .before .before .before .before .before .before .put-byte6 .ensures) (c .before .before .put8 .ensures); end = refl }
 
 pub put-head-spec : {M : Type 1} → statement M
 put-head-spec =
@@ -69,6 +69,6 @@ put-head-spec =
     put-byte-requires-5
     cast-put-byte-5
     put-byte-requires-6
-    put-requires
+    put8-requires
     same-length
     returns)

@@ -57,17 +57,17 @@ loop-less c = search needs
 loop-again : tie.Need-loop-again Inv-loop μ-loop
 loop-again c = norring-turn (c .before .before .before .before .before .before .before .loop .inv) (c .before .before .before .before .before .before .loop-test .taken) (c .before .before .before .before .before .at16 .ensures) (c .before .before .before .at8 .ensures) (c .before .before .put-byte3 .ensures)
 
-put-requires : tie.Need-put-requires Inv-loop μ-loop
-put-requires c κs = search needs
+put8-requires : tie.Need-put8-requires Inv-loop μ-loop
+put8-requires c κs = search needs
 
 add-result : tie.Need-add-result Inv-loop μ-loop
 add-result c = omega (arith, c .before .before .before .before .before .loop .inv .far, c .before .before .before .before .before .loop .inv .inside, c .before .before .before .before .before .before .before .before .before .before .before .before .before .before .before .before .before .pre .0, c .before .before .before .before .before .before .before .before .before .before .before .before .before .before .before .before .before .pre .1 .1 .1)
 
 same-length : tie.Need-same-length Inv-loop μ-loop
-same-length c = c .before .before .put .kept .0 ∙ c .before .before .before .before .before .loop .inv .text .wide ∙ c .before .before .before .before .before .before .before .before .put-byte2 .kept .0 ∙ c .before .before .before .before .before .before .before .before .before .before .before .before .put-byte .kept .0
+same-length c = c .before .before .put8 .kept .0 ∙ c .before .before .before .before .before .loop .inv .text .wide ∙ c .before .before .before .before .before .before .before .before .put-byte2 .kept .0 ∙ c .before .before .before .before .before .before .before .before .before .before .before .before .put-byte .kept .0
 
 returns : tie.Need-returns Inv-loop μ-loop
-returns c = norring-end (c .before .before .before .before .before .before .before .before .before .before .before .before .before .before .before .before .before .args .at) (c .before .before .before .before .before .before .before .before .before .before .before .before .before .before .before .before .before .args .c) (c .before .before .before .before .before .before .before .before .before .before .before .before .put-byte .ensures) (c .before .before .before .before .before .before .before .before .put-byte2 .ensures) refl (c .before .before .before .before .before .loop .inv) (c .before .before .before .before .loop-test .left) (c .before .before .put .ensures)
+returns c = norring-end (c .before .before .before .before .before .before .before .before .before .before .before .before .before .before .before .before .before .args .at) (c .before .before .before .before .before .before .before .before .before .before .before .before .before .before .before .before .before .args .c) (c .before .before .before .before .before .before .before .before .before .before .before .before .put-byte .ensures) (c .before .before .before .before .before .before .before .before .put-byte2 .ensures) refl (c .before .before .before .before .before .loop .inv) (c .before .before .before .before .loop-test .left) (c .before .before .put8 .ensures)
 
 pub put-nor-spec : {M : Type 1} → statement M
 put-nor-spec =
@@ -90,7 +90,7 @@ put-nor-spec =
     add-j
     loop-less
     loop-again
-    put-requires
+    put8-requires
     add-result
     same-length
     returns)

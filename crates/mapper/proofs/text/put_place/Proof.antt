@@ -12,11 +12,11 @@ add-put-byte c = search needs
 put-byte-requires-2 : tie.Need-put-byte-requires-2
 put-byte-requires-2 c κs = search needs
 
-add-put : tie.Need-add-put
-add-put c = search needs
+add-put8 : tie.Need-add-put8
+add-put8 c = search needs
 
-put-requires : tie.Need-put-requires
-put-requires c κs = search needs
+put8-requires : tie.Need-put8-requires
+put8-requires c κs = search needs
 
 add-result : tie.Need-add-result
 add-result c = search needs
@@ -25,7 +25,7 @@ same-length : tie.Need-same-length
 same-length c = search needs
 
 returns : tie.Need-returns
-returns c = place-put (c .before .before .before .before .before .before .before .before .before .before .before .before .before .args .c) (c .before .before .before .before .before .before .before .before .before .before .put-byte .ensures) (c .before .before .before .before .before .before .put-byte2 .ensures) (c .before .before .put .ensures)
+returns c = place-put (c .before .before .before .before .before .before .before .before .before .before .before .before .before .args .c) (c .before .before .before .before .before .before .before .before .before .before .put-byte .ensures) (c .before .before .before .before .before .before .put-byte2 .ensures) (c .before .before .put8 .ensures)
 
 pub put-place-spec : {M : Type 1} → statement M
 put-place-spec =
@@ -34,8 +34,8 @@ put-place-spec =
     put-byte-requires
     add-put-byte
     put-byte-requires-2
-    add-put
-    put-requires
+    add-put8
+    put8-requires
     add-result
     same-length
     returns)

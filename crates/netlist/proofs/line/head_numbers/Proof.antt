@@ -7,7 +7,7 @@ use Rattle.netlist.proofs.line.head_numbers.Statement.{statement}
 use Rattle.netlist.proofs.line.head_numbers.Tie as tie
 use Rattle.netlist.proofs.line.head_numbers.Reads as reads
 use Rattle.netlist.proofs.line.head_numbers.Lts as lts
-use Rattle.netlist.proofs.line.is_within.Reads as is-within-reads
+use Rattle.lines.proofs.is_within.Reads as is-within-reads
 
 -- src/line.rt:52:9
 is-within-requires : tie.Need-is-within-requires

@@ -11,7 +11,7 @@ use Rattle.row.proofs.device.nor.Tie as tie
 use Rattle.row.proofs.device.nor.Reads as reads
 use Rattle.row.proofs.device.nor.Lts as lts
 use Rattle.row.proofs.cell_at.Reads as cell-at-reads
-use Rattle.row.proofs.device.held.Reads as held-reads
+use Rattle.slices.proofs.at8.Reads as at8-reads
 use Rattle.row.proofs.device.lowered.Reads as lowered-reads
 
 abbrev Inv-loop : tie.InvT-loop
@@ -39,8 +39,8 @@ returns : tie.Need-returns Inv-loop μ-loop
 unfolding nor
 returns c = nor-ends _ _ _ _ _ (walk-end (c .before .before .before .loop .inv) _ (c .before .before .cell-at .ensures) (c .enum-told .given .1) _ (omega arith))
 
-held-requires : tie.Need-held-requires Inv-loop μ-loop
-held-requires c κs = search needs
+at8-requires : tie.Need-at8-requires Inv-loop μ-loop
+at8-requires c κs = search needs
 
 lowered-requires : tie.Need-lowered-requires Inv-loop μ-loop
 lowered-requires c κs = search needs
@@ -52,7 +52,7 @@ loop-less : tie.Need-loop-less Inv-loop μ-loop
 loop-less c = omega (arith, walk-inside (c .before .before .before .before .before .before .before .before .before .args .text .now) _ _ _ (c .before .before .before .before .before .cell-at .ensures) (c .before .before .before .n .given .1))
 
 loop-again : tie.Need-loop-again Inv-loop μ-loop
-loop-again c = walk-turn (c .before .before .before .before .before .before .loop .inv) _ (c .before .before .before .before .before .cell-at .ensures) _ _ (c .before .before .before .n .given .1) (nor-turn _ _ _ _ _ _ (c .before .held .ensures) (c .lowered .ensures))
+loop-again c = walk-turn (c .before .before .before .before .before .before .loop .inv) _ (c .before .before .before .before .before .cell-at .ensures) _ _ (c .before .before .before .n .given .1) (nor-turn _ _ _ _ _ _ (c .before .at8 .ensures) (c .lowered .ensures))
 
 pub nor-spec : {M : Type 1} → statement M
 nor-spec =
@@ -66,7 +66,7 @@ nor-spec =
     enum-told
     add-t8
     returns
-    held-requires
+    at8-requires
     lowered-requires
     add-at
     loop-less

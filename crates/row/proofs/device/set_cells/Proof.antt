@@ -11,7 +11,7 @@ use Rattle.row.proofs.device.set_cells.Statement.{statement}
 use Rattle.row.proofs.device.set_cells.Tie as tie
 use Rattle.row.proofs.device.set_cells.Reads as reads
 use Rattle.row.proofs.device.set_cells.Lts as lts
-use Rattle.lines.proofs.write.put.Reads as put-reads
+use Rattle.slices.proofs.put8.Reads as put8-reads
 use Rattle.row.proofs.cell_at.Reads as cell-at-reads
 
 abbrev Inv-loop : tie.InvT-loop
@@ -42,8 +42,8 @@ returns : tie.Need-returns Inv-loop μ-loop
 unfolding setAll
 returns c = set-ends _ _ _ _ _ (walk-end (c .before .before .before .loop .inv .0) _ (c .before .before .cell-at .ensures) (c .enum-told .given .1) _ refl)
 
-put-requires : tie.Need-put-requires Inv-loop μ-loop
-put-requires c κs = search needs
+put8-requires : tie.Need-put8-requires Inv-loop μ-loop
+put8-requires c κs = search needs
 
 add-at : tie.Need-add-at Inv-loop μ-loop
 add-at c = omega (arith, walk-inside (c .before .before .before .before .before .before .before .before .before .before .before .args .text .now) _ _ _ (c .before .before .before .before .before .before .before .cell-at .ensures) (c .before .before .before .before .before .n .given .1))
@@ -52,7 +52,7 @@ loop-less : tie.Need-loop-less Inv-loop μ-loop
 loop-less c = omega (arith, walk-inside (c .before .before .before .before .before .before .before .before .before .before .before .args .text .now) _ _ _ (c .before .before .before .before .before .before .before .cell-at .ensures) (c .before .before .before .before .before .n .given .1))
 
 loop-again : tie.Need-loop-again Inv-loop μ-loop
-loop-again c = (walk-turn (c .before .before .before .before .before .before .before .before .loop .inv .0) _ (c .before .before .before .before .before .before .before .cell-at .ensures) _ _ (c .before .before .before .before .before .n .given .1) (set-turn _ _ _ _ (c .before .before .put .ensures)), search needs)
+loop-again c = (walk-turn (c .before .before .before .before .before .before .before .before .loop .inv .0) _ (c .before .before .before .before .before .before .before .cell-at .ensures) _ _ (c .before .before .before .before .before .n .given .1) (set-turn _ _ _ _ (c .before .before .put8 .ensures)), search needs)
 
 pub set-cells-spec : {M : Type 1} → statement M
 set-cells-spec =
@@ -67,7 +67,7 @@ set-cells-spec =
     add-result
     same-length
     returns
-    put-requires
+    put8-requires
     add-at
     loop-less
     loop-again)

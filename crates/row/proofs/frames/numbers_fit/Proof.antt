@@ -6,7 +6,7 @@ use Rattle.row.proofs.frames.numbers_fit.Statement.{statement}
 use Rattle.row.proofs.frames.numbers_fit.Tie as tie
 use Rattle.row.proofs.frames.numbers_fit.Reads as reads
 use Rattle.row.proofs.frames.numbers_fit.Lts as lts
-use Rattle.row.proofs.frames.is_within.Reads as is-within-reads
+use Rattle.lines.proofs.is_within.Reads as is-within-reads
 
 is-within-requires : tie.Need-is-within-requires
 is-within-requires c κs = search needs

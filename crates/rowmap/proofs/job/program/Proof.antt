@@ -1,11 +1,12 @@
 use Rattle.rowmap.proofs.Prints.{prints-long, prints-refused, prints-mapped, prints-told}
+use mathlib.Core.Path.{refl}
 use borrow.Author.Needs.{needs}
 use Rattle.rowmap.proofs.job.program.Statement.{statement}
 use Rattle.rowmap.proofs.job.program.Tie as tie
 use Rattle.rowmap.proofs.job.program.Reads as reads
 use Rattle.rowmap.proofs.job.program.Lts as lts
 use Rattle.mapper.proofs.map.Reads as map-reads
-use Rattle.rowmap.proofs.job.put_refusal.Reads as put-refusal-reads
+use Rattle.lines.proofs.write.put_refusal.Reads as put-refusal-reads
 use Rattle.rowmap.proofs.job.read_job.Reads as read-job-reads
 use Rattle.rowmap.proofs.job.refusal.Reads as refusal-reads
 use Rattle.slices.proofs.rest8.Reads as rest8-reads
@@ -20,7 +21,7 @@ same-length c = search needs
 
 -- src/job.rt:60:9
 returns : tie.Need-returns
-returns c = λ size. prints-long (c .before .before .before .before .before .before .before .args .input .now) (c .before .before .before .before .before .before .before .args .out .now) size _ _ (c .before .before .before .before .if1 .taken) (c .before .before .put-refusal .ensures .0) (c .before .before .put-refusal .ensures .1)
+returns c = λ size. prints-long (c .before .before .before .before .before .before .before .args .input .now) (c .before .before .before .before .before .before .before .args .out .now) size _ _ (c .before .before .before .before .if1 .taken) refl (c .before .before .put-refusal .ensures)
 
 -- src/job.rt:62:9
 read-job-requires : tie.Need-read-job-requires
@@ -48,7 +49,7 @@ same-length-2 c = search needs
 
 -- src/job.rt:64:9
 returns-2 : tie.Need-returns-2
-returns-2 c = λ size. prints-refused (c .before .before .before .before .before .before .before .before .before .before .before .args .input .now) (c .before .before .before .before .before .before .before .before .before .before .before .args .out .now) size (c .before .before .before .before .before .before .before .before .if1 .left) _ _ _ _ _ (c .before .before .before .before .before .before .before .read-job .ensures) (c .before .before .before .before .before .enum-told .given .1) (c .before .before .before .refusal .ensures) (c .before .before .put-refusal2 .ensures .0) (c .before .before .put-refusal2 .ensures .1)
+returns-2 c = λ size. prints-refused (c .before .before .before .before .before .before .before .before .before .before .before .args .input .now) (c .before .before .before .before .before .before .before .before .before .before .before .args .out .now) size (c .before .before .before .before .before .before .before .before .if1 .left) _ _ _ _ _ (c .before .before .before .before .before .before .before .read-job .ensures) (c .before .before .before .before .before .enum-told .given .1) (c .before .before .before .refusal .ensures) refl (c .before .before .put-refusal2 .ensures)
 
 -- src/job.rt:66:9
 rest8-requires : tie.Need-rest8-requires
@@ -84,7 +85,7 @@ same-length-4 c = search needs
 
 -- src/job.rt:56:1
 returns-4 : tie.Need-returns-4
-returns-4 c = λ size. prints-told (c .before .before .before .before .before .before .before .before .before .before .before .before .before .before .before .before .before .before .before .args .input .now) (c .before .before .before .before .before .before .before .before .before .before .before .before .before .before .before .before .before .before .before .args .out .now) size (c .before .before .before .before .before .before .before .before .before .before .before .before .before .before .before .before .if1 .left) _ _ (c .before .before .before .before .before .before .before .before .before .before .before .before .before .before .before .read-job .ensures) (c .before .before .before .before .before .before .before .before .before .before .before .before .before .j .given .1) _ _ _ (c .before .before .before .before .before .before .before .before .before .before .before .rest8 .ensures) (c .before .before .before .before .before .before .before .before .before .map .ensures) _ _ _ (c .before .before .before .before .before .a2 .given .1) (c .before .before .put-refusal3 .ensures .0) (c .before .before .put-refusal3 .ensures .1)
+returns-4 c = λ size. prints-told (c .before .before .before .before .before .before .before .before .before .before .before .before .before .before .before .before .before .before .before .args .input .now) (c .before .before .before .before .before .before .before .before .before .before .before .before .before .before .before .before .before .before .before .args .out .now) size (c .before .before .before .before .before .before .before .before .before .before .before .before .before .before .before .before .if1 .left) _ _ (c .before .before .before .before .before .before .before .before .before .before .before .before .before .before .before .read-job .ensures) (c .before .before .before .before .before .before .before .before .before .before .before .before .before .j .given .1) _ _ _ (c .before .before .before .before .before .before .before .before .before .before .before .rest8 .ensures) (c .before .before .before .before .before .before .before .before .before .map .ensures) _ _ _ (c .before .before .before .before .before .a2 .given .1) refl (c .before .before .put-refusal3 .ensures)
 
 pub program-spec : {M : Type 1} → statement M
 program-spec =

@@ -42,8 +42,8 @@ loop-less c = search needs
 loop-again : tie.Need-loop-again Inv-loop μ-loop
 loop-again c = renew-turn (c .before .before .before .before .before .before .before .before .before .before .before .before .before .pre) (c .before .before .before .before .before .before .before .loop .inv) (c .before .before .before .before .before .before .loop-test .taken) (c .before .before .before .put-spent .ensures .0) (c .before .before .before .put-spent .ensures .1) (c .renew .ensures)
 
-put-requires : tie.Need-put-requires Inv-loop μ-loop
-put-requires c κs = search needs
+put8-requires : tie.Need-put8-requires Inv-loop μ-loop
+put8-requires c κs = search needs
 
 add-self : tie.Need-add-self Inv-loop μ-loop
 add-self c = omega (arith, c .before .before .before .before .before .before .before .before .before .before .before .pre .size, c .before .before .before .before .before .before .before .before .before .before .before .pre .short, c .before .before .before .before .before .loop .inv .far, c .before .before .before .before .before .loop .inv .inside)
@@ -52,10 +52,10 @@ add-self-2 : tie.Need-add-self-2 Inv-loop μ-loop
 add-self-2 c = omega (arith, c .before .before .before .before .before .before .before .before .before .before .before .pre .few, c .before .before .before .before .before .loop .inv .lines)
 
 same-length : tie.Need-same-length Inv-loop μ-loop
-same-length c = c .before .before .put .kept .0 ∙ c .before .before .before .before .before .loop .inv .text .wide ∙ c .before .before .before .before .before .before .before .before .put-byte .kept .0
+same-length c = c .before .before .put8 .kept .0 ∙ c .before .before .before .before .before .loop .inv .text .wide ∙ c .before .before .before .before .before .before .before .before .put-byte .kept .0
 
 returns : tie.Need-returns Inv-loop μ-loop
-returns c = renew-end (c .before .before .before .before .before .before .before .before .before .before .before .pre) (c .before .before .before .before .before .before .before .before .put-byte .ensures) (c .before .before .before .before .before .loop .inv) (c .before .before .before .before .loop-test .left) (c .before .before .put .ensures)
+returns c = renew-end (c .before .before .before .before .before .before .before .before .before .before .before .pre) (c .before .before .before .before .before .before .before .before .put-byte .ensures) (c .before .before .before .before .before .loop .inv) (c .before .before .before .before .loop-test .left) (c .before .before .put8 .ensures)
 
 pub set-spent-spec : {M : Type 1} → statement M
 set-spent-spec =
@@ -73,7 +73,7 @@ set-spent-spec =
     add-c
     loop-less
     loop-again
-    put-requires
+    put8-requires
     add-self
     add-self-2
     same-length

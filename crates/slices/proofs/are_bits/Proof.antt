@@ -1,17 +1,17 @@
 use Prim.Native.Nat.{_-_}
 use borrow.Author.Needs.{needs}
 use lib.ListN.{length}
-use Rattle.row.proofs.Running.{Bits, bits-long, bits-start, bits-stop, bits-turn, bits-end}
-use Rattle.row.proofs.device.are_bits.Statement.{statement}
-use Rattle.row.proofs.device.are_bits.Tie as tie
-use Rattle.row.proofs.device.are_bits.Reads as reads
-use Rattle.row.proofs.device.are_bits.Lts as lts
+use Rattle.slices.proofs.Bits.{Bits, bits-long, bits-start, bits-stop, bits-turn, bits-end}
+use Rattle.slices.proofs.are_bits.Statement.{statement}
+use Rattle.slices.proofs.are_bits.Tie as tie
+use Rattle.slices.proofs.are_bits.Reads as reads
+use Rattle.slices.proofs.are_bits.Lts as lts
 
 abbrev Inv-loop : tie.InvT-loop
-Inv-loop row n i₀ i = Bits n row i
+Inv-loop s n i₀ i = Bits n s i
 
 abbrev μ-loop : tie.MeasureT-loop
-μ-loop row n i₀ i = length row - i
+μ-loop s n i₀ i = length s - i
 
 returns : tie.Need-returns Inv-loop μ-loop
 returns c = bits-long _ _ (c .if1 .taken)

@@ -1,8 +1,8 @@
 use borrow.Author.Tests.{lt-leb, le-leb}
-use Rattle.row.proofs.frames.is_within.Statement.{statement}
-use Rattle.row.proofs.frames.is_within.Tie as tie
-use Rattle.row.proofs.frames.is_within.Reads as reads
-use Rattle.row.proofs.frames.is_within.Lts as lts
+use Rattle.lines.proofs.is_within.Statement.{statement}
+use Rattle.lines.proofs.is_within.Tie as tie
+use Rattle.lines.proofs.is_within.Reads as reads
+use Rattle.lines.proofs.is_within.Lts as lts
 
 returns : tie.Need-returns
 returns c = simp (lt-leb _ _ (c .if1 .taken))
