@@ -1,4 +1,9 @@
-//! The proved calls. An answer is its value, or minus the refusal's number.
+//! NOR netlists on one row of resistive memory: the proved calls as safe functions.
+//!
+//! Every call takes every text, row and number there are, and ends. A refused call leaves every lent byte as it was.
+//! docs/FORMAT.md explains the texts and what to do about each refusal.
+
+pub mod refusal;
 
 extern "C" {
     fn bhedhmurali_map(
@@ -35,18 +40,21 @@ extern "C" {
     fn bhedhmurali_next(text: *const u8, text_size: usize, at: usize) -> usize;
 }
 
-/// A call's answer: the value, or the refusal's number.
+/// A call's answer: the value, or the number of the refusal, one of those in [`refusal`].
 pub type Answer = Result<usize, u8>;
 
+/// The library answers one number: the value, or minus the refusal's number.
 fn answer(coded: i64) -> Answer {
     usize::try_from(coded).map_err(|_| u8::try_from(-coded).unwrap_or(u8::MAX))
 }
 
+/// Maps a netlist's text to a sequence's text for a row of so many cells. The text fills the front of `out`; answers its length.
 pub fn map(row: u64, text: &[u8], out: &mut [u8]) -> Answer {
     let row = usize::try_from(row).unwrap_or(usize::MAX);
     answer(unsafe { bhedhmurali_map(row, text.as_ptr(), text.len(), out.as_mut_ptr(), out.len()) })
 }
 
+/// Checks a sequence, from any producer, against a netlist; answers the number of instructions where it passes.
 pub fn check(netlist: &[u8], sequence: &[u8]) -> Answer {
     answer(unsafe {
         bhedhmurali_check(
@@ -58,16 +66,17 @@ pub fn check(netlist: &[u8], sequence: &[u8]) -> Answer {
     })
 }
 
-/// 0 where the text is a netlist that reads well.
+/// Reads a netlist's text; answers 0, or the refusal, 1 to 7.
 pub fn read(text: &[u8]) -> Answer {
     answer(unsafe { bhedhmurali_read(text.as_ptr(), text.len()) })
 }
 
-/// Where the part of the text that follows the netlist begins.
+/// Where the part of the text that follows the netlist's last output line begins.
 pub fn tail(text: &[u8]) -> usize {
     unsafe { bhedhmurali_tail(text.as_ptr(), text.len()) }
 }
 
+/// Works out a netlist's outputs for one byte, 0 or 1, an input. They fill the front of `out`; answers their number.
 pub fn evaluate(text: &[u8], inputs: &[u8], out: &mut [u8]) -> Answer {
     answer(unsafe {
         bhedhmurali_evaluate(
@@ -81,6 +90,7 @@ pub fn evaluate(text: &[u8], inputs: &[u8], out: &mut [u8]) -> Answer {
     })
 }
 
+/// Runs a sequence on a row of one byte, 0 or 1, a cell, for at most `budget` cycles; answers the cycles run.
 pub fn simulate(text: &[u8], row: &mut [u8], budget: u64) -> Answer {
     let budget = usize::try_from(budget).unwrap_or(usize::MAX);
     answer(unsafe {
@@ -94,7 +104,7 @@ pub fn simulate(text: &[u8], row: &mut [u8], budget: u64) -> Answer {
     })
 }
 
-/// How many digits the frame at a place has, and the place after it.
+/// How many digits the frame at a place has, 0 where none stands there; and the place after it, the same where none stands there.
 pub fn frame(text: &[u8], at: usize) -> (usize, usize) {
     unsafe {
         (
