@@ -1,21 +1,19 @@
 -- What the step answers is what the definition of the step says, test by test.
-use Prim.Native.Nat.{ℕ, zero, suc, _+_, _-_, _*_, _/_, _<_, _≤_, min}
+use Prim.Native.Nat.{ℕ, zero, suc, _-_, _/_, min}
 use native.Mathlib.Omega.{arith}
-use mathlib.Core.Path.{_≡_, refl, sym, ap, _∙_}
+use mathlib.Core.Path.{_≡_, refl, sym, _∙_}
 use mathlib.Core.Bool.{Bool, true, false}
-use mathlib.Core.List.{List, [], _∷_}
-use lib.Dec.{eqb, ltb}
+use mathlib.Core.List.{List}
+use lib.Dec.{ltb}
 use lib.ListN.{getD, length, take, set}
 use borrow.Author.Tests.{le-ltb, ne-eqb}
 use Rattle.rules.specs.Basics.{pick, any, setAll}
-use Rattle.rules.specs.Refusals.{Res, good, refused, refuse, _>>=_, orRefuse}
-use Rattle.rules.specs.Book.{Cell, unknown, ready, holds}
-use Rattle.rules.proofs.Laws.{no-way}
+use Rattle.rules.specs.Refusals.{good, refuse, _>>=_, orRefuse}
+use Rattle.rules.specs.Book.{Cell, ready, holds}
 use Rattle.lines.specs.Line.{byteAt, bytesFrom}
 use Rattle.instruction.specs.declared.Instruction.{Instruction}
 use Rattle.instruction.specs.Line.{instructionIn}
 use Rattle.book.specs.declared.Book.{Book}
-use Rattle.book.specs.declared.Outcome.{Outcome}
 use Rattle.book.specs.Cells.{cellOf, said, kept, bookIn, bookOf}
 use Rattle.book.specs.Steps.{gateIn, madeWith, stepWith, standingIn, outcomeOf, steppedOf, norVerdict}
 use Rattle.book.proofs.Laws.{said-at}

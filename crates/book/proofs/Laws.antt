@@ -1,16 +1,16 @@
 -- Laws of a book's numbers: what they say of a row, one cell altered, the first book.
-use Prim.Native.Nat.{ℕ, zero, suc, _+_, _-_, _*_, _/_, _<_, _≤_, min}
+use Prim.Native.Nat.{ℕ, zero, suc, _+_, _-_, _<_, _≤_, min}
 use native.Mathlib.Omega.{arith}
 use native.Mathlib.Numerals.{add-one, add-two}
 use native.Mathlib.Decide.{decLt}
-use mathlib.Core.Path.{_≡_, refl, sym, ap, _∙_, subst}
-use mathlib.Core.Bool.{Bool, true, false, _||_}
+use mathlib.Core.Path.{_≡_, refl, sym, ap, _∙_}
+use mathlib.Core.Bool.{true}
 use mathlib.Core.List.{List, [], _∷_, _++_, map, append-nil}
 use lib.Dec.{ltb}
-use lib.ListN.{getD, length, set, take, drop, take-append-drop, length-append, length-take, length-drop, length-map, length-set, length-replicate, drop-of-length-le, List·getD-map, List·getD-eq-default}
+use lib.ListN.{getD, length, set, take, drop, take-append-drop, length-take, length-map, length-set, drop-of-length-le, List·getD-map, List·getD-eq-default}
 use lib.Seq.{sets, set-out, take-set-lt, drop-set-lt, take-at, drop-at, take-all, getD-take}
 use borrow.Author.Tests.{lt-ltb, le-ltb}
-use Rattle.rules.specs.Basics.{pick, any, setAll, upto}
+use Rattle.rules.specs.Basics.{any, setAll, upto}
 use Rattle.rules.specs.Book.{Cell, unknown, ready, holds}
 use Rattle.book.specs.Cells.{cellOf, codeOf, said, kept, blankCells}
 

@@ -1,13 +1,12 @@
 -- What the book's step answers is what document 01's rule for the checker says.
-use Prim.Native.Nat.{ℕ, zero, suc, _+_, _-_, _*_, _/_, _%_, _<_, _≤_, min}
+use Prim.Native.Nat.{ℕ, zero, suc, _+_, _-_, _/_, _≤_, min}
 use native.Mathlib.Omega.{arith}
 use mathlib.Core.Path.{_≡_, refl, sym, ap, _∙_}
-use mathlib.Core.Bool.{Bool, true, false}
 use mathlib.Core.List.{List, [], _∷_, _++_, map, map-append}
 use mathlib.Core.Option.{Option, none, some}
-use lib.Dec.{eqb, ltb}
-use lib.ListN.{getD, length, take, drop, set, replicate, length-append, length-set, length-map, length-replicate, take-append-drop}
-use lib.Seq.{sets, sets-eq, take-append-add, drop-append-seam}
+use lib.Dec.{ltb}
+use lib.ListN.{getD, length, take, drop, set, replicate, length-set, length-map, length-replicate}
+use lib.Seq.{sets, sets-eq, take-append-add}
 use borrow.Author.Tests.{ne-eqb}
 use Rattle.rules.specs.declared.Refusal.{Refusal}
 use Rattle.rules.specs.Basics.{pick, any, setAll, upto}
@@ -16,13 +15,12 @@ use Rattle.rules.specs.Netlist.{Netlist}
 use Rattle.rules.specs.Sequence as rules
 use Rattle.rules.specs.Sequence.{Set, Nor}
 use Rattle.rules.specs.Book.{Cell, unknown, ready, holds, firstBook, signals, made, step}
-use Rattle.rules.proofs.Laws.{no-way, by-pick}
+use Rattle.rules.proofs.Laws.{by-pick}
 use Rattle.instruction.specs.declared.Instruction.{Instruction}
 use Rattle.instruction.specs.Line.{instructionAt, instructionIn}
 use Rattle.instruction.proofs.Standing.{cells-inside}
 use Rattle.book.specs.declared.Book.{Book}
-use Rattle.book.specs.declared.Outcome.{Outcome}
-use Rattle.book.specs.Cells.{cellOf, codeOf, said, kept, bookIn, bookOf, blankCells, firstOf}
+use Rattle.book.specs.Cells.{cellOf, codeOf, said, bookIn, bookOf, blankCells, firstOf}
 use Rattle.book.specs.Steps.{gateIn, madeWith, stepWith, standingIn, outcomeOf, steppedOf, steppedIn, gateFor}
 use Rattle.book.proofs.Laws.{cells-of, said-length, said-kept}
 

@@ -1,7 +1,7 @@
 -- What the numbers of a book say of the cells, in document 01's words: a signal, ready, or unknown.
 -- Assumes nothing.
 use Prim.Native.Nat.{ℕ, zero, suc, _+_}
-use mathlib.Core.List.{List, [], _∷_, _++_, map}
+use mathlib.Core.List.{List, _++_, map}
 use lib.ListN.{take, drop, replicate}
 use lib.Seq.{sets}
 use Rattle.rules.specs.Basics.{upto}

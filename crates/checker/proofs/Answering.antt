@@ -1,14 +1,13 @@
 -- What the checker answers where the netlist was read, test by test.
-use Prim.Native.Nat.{ℕ, zero, suc, _+_, _-_, _<_, _≤_, min}
+use Prim.Native.Nat.{ℕ, _-_, _≤_, min}
 use native.Mathlib.Omega.{arith}
-use mathlib.Core.Path.{_≡_, refl, sym, ap, _∙_}
+use mathlib.Core.Path.{_≡_, sym, ap, _∙_}
 use mathlib.Core.Bool.{Bool, true, false}
 use mathlib.Core.List.{List}
 use lib.Dec.{eqb}
 use lib.ListN.{length}
 use borrow.Author.Tests.{eq-eqb, ne-eqb}
 use Rattle.rules.specs.declared.Refusal.{Refusal}
-use Rattle.rules.specs.Basics.{pick}
 use Rattle.rules.specs.Form.{form01}
 use Rattle.rules.specs.Refusals.{Res, good, refused, refuse, _>>=_, _>>_, require}
 use Rattle.rules.specs.Netlist as rules

@@ -1,26 +1,25 @@
 -- The two ways in, over two texts and over one, and what the checking program prints.
-use Prim.Native.Nat.{ℕ, zero, suc, _+_, _<_, _≤_}
+use Prim.Native.Nat.{ℕ, _<_, _≤_}
 use native.Mathlib.Omega.{arith}
-use mathlib.Core.Path.{_≡_, refl, sym, ap, _∙_, subst}
-use mathlib.Core.Bool.{Bool, true, false}
-use mathlib.Core.List.{List, [], _∷_}
-use lib.Dec.{eqb, ltb}
+use mathlib.Core.Path.{_≡_, refl, sym, ap, _∙_}
+use mathlib.Core.List.{List}
+use lib.Dec.{eqb}
 use lib.ListN.{length, drop}
 use lib.Seq.{sets}
-use borrow.Author.Tests.{eq-eqb, ne-eqb, lt-ltb, le-ltb}
+use borrow.Author.Tests.{ne-eqb, lt-ltb, le-ltb}
 use Rattle.rules.specs.declared.Refusal.{Refusal}
 use Rattle.rules.specs.declared.Answer.{Answer}
 use Rattle.rules.specs.Basics.{pick}
 use Rattle.rules.specs.Form.{form01}
-use Rattle.rules.specs.Refusals.{Res, good, refused, refuse, _>>=_, _>>_, require, meaning}
+use Rattle.rules.specs.Refusals.{Res, good, refused, _>>=_, _>>_, meaning}
 use Rattle.rules.specs.Lines.{written, bytesOf}
 use Rattle.rules.specs.Netlist as rules
 use Rattle.rules.specs.Netlist.{Part, netlistLines, netlistOf, wellFormed}
 use Rattle.rules.specs.Sequence.{Sequence, sequenceOf}
-use Rattle.rules.specs.Book.{Cell, firstBook, steps, placed, checked, checkedText}
+use Rattle.rules.specs.Book.{firstBook, steps, placed, checked, checkedText}
 use Rattle.rules.specs.Programs.{refusalLine, cyclesLine, printed, held, checkingAnswer, checkingProgram}
 use Rattle.rules.specs.Calls.{checkOutcome, rowcheckOutput}
-use Rattle.rules.proofs.Laws.{no-way, bind-good, then-good, require-good}
+use Rattle.rules.proofs.Laws.{bind-good, require-good}
 use Rattle.netlist.specs.declared.Netlist.{Netlist}
 use Rattle.netlist.specs.declared.Reading.{Reading}
 use Rattle.netlist.specs.Flat.{netlistIn, readingOf, partOf, frontOf}

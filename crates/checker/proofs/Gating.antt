@@ -1,5 +1,5 @@
 -- The gate that is found by key is the gate that document 01's rule for the checker names.
-use Prim.Native.Nat.{ℕ, zero, suc, _+_, _-_, _*_, _<_, _≤_}
+use Prim.Native.Nat.{ℕ, _+_, _-_, _<_, _≤_}
 use native.Mathlib.Omega.{arith}
 use native.Mathlib.Numerals.{add-two}
 use native.Mathlib.Decide.{decLt}
@@ -11,10 +11,9 @@ use lib.Dec.{ltb}
 use lib.ListN.{getD, length, List·getD-map}
 use borrow.Author.Tests.{ltb-true, ltb-false, le-ltb, lt-ltb}
 use Rattle.rules.specs.Basics.{pick, mem, sort}
-use Rattle.rules.specs.Sequence.{Set, Nor}
 use Rattle.rules.specs.Book.{Cell, unknown, ready, holds, ifHolds, signals, gateWith, gateOn}
 use Rattle.rules.proofs.Laws.{no-way, cons-cases, cons-more, cons-self, mem-nil, gateWith-spec}
-use Rattle.lines.specs.Line.{byteAt, bytesFrom}
+use Rattle.lines.specs.Line.{bytesFrom}
 use Rattle.instruction.specs.declared.Instruction.{Instruction}
 use Rattle.instruction.specs.Line.{instructionIn}
 use Rattle.row.proofs.Judging.{length-bytes}

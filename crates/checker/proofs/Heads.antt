@@ -1,16 +1,15 @@
 -- What a sequence that reads well has: numbers within document 01's, and as many instructions and places as its head says.
 use Prim.Native.Nat.{ℕ, zero, suc, _+_, _<_, _≤_}
 use native.Mathlib.Omega.{arith}
-use mathlib.Core.Path.{_≡_, refl, sym, ap, _∙_, subst}
-use mathlib.Core.Bool.{Bool, true, false, _&&_}
+use mathlib.Core.Path.{_≡_, sym, ap, _∙_, subst}
 use mathlib.Core.List.{List, [], _∷_, _++_}
-use lib.Dec.{eqb, ltb, leb}
+use lib.Dec.{ltb, leb}
 use lib.ListN.{getD, length, length-append}
 use borrow.Author.Tests.{ltb-true, leb-true}
 use Rattle.rules.specs.Basics.{within}
 use Rattle.rules.specs.Form.{form01, one, two}
-use Rattle.rules.specs.Refusals.{Res, good, refused, _>>=_, _>>_, require, orRefuse}
-use Rattle.rules.specs.Lines.{Line, line, fields, nothing}
+use Rattle.rules.specs.Refusals.{Res, good, _>>=_, _>>_, require, orRefuse}
+use Rattle.rules.specs.Lines.{line, fields, nothing}
 use Rattle.rules.specs.Netlist.{Part, due, lines}
 use Rattle.rules.specs.Sequence.{Sequence, SequenceHead, sequenceHeadOf, instructionOf, placeOf, sequenceOf}
 use Rattle.rules.proofs.Laws.{and-true, bind-good, then-good, require-good}

@@ -1,11 +1,10 @@
 -- The tests on the way to a gate: what each answers is what the definition says.
-use Prim.Native.Nat.{ℕ, zero, suc, _+_, _-_, _*_, _<_, _≤_}
+use Prim.Native.Nat.{ℕ, suc, _+_, _-_, _<_, _≤_}
 use native.Mathlib.Omega.{arith}
 use mathlib.Core.Path.{_≡_, refl, sym, ap, _∙_}
 use mathlib.Core.Bool.{Bool, true, false}
 use mathlib.Core.List.{List, [], _∷_, map}
 use mathlib.Core.Option.{Option, none, some}
-use lib.Dec.{ltb, leb}
 use lib.ListN.{getD, length, take}
 use borrow.Author.Tests.{lt-ltb, le-ltb, le-leb, lt-leb}
 use Rattle.rules.specs.Basics.{pick, sort}
@@ -17,7 +16,6 @@ use Rattle.row.proofs.Judging.{length-bytes}
 use Rattle.index.specs.declared.Found.{Found}
 use Rattle.index.specs.declared.Found.the-variants.{At, Nothing}
 use Rattle.index.specs.Chains.{keyOf, foundIn}
-use Rattle.checker.specs.declared.operands.Four.{Four}
 use Rattle.checker.specs.declared.operands.Operands.{Operands}
 use Rattle.checker.specs.Operands.{fourOf, listOf, operandsOf, lowCell}
 use Rattle.checker.specs.Gates.{codeFound, gateOver, gateMade}

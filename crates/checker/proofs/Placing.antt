@@ -1,14 +1,13 @@
 -- Places one after another: each holds its output, or the checker says 16.
 use Prim.Native.Nat.{ℕ, zero, suc, _+_, _-_, _<_, _≤_}
 use native.Mathlib.Omega.{arith}
-use native.Mathlib.Numerals.{add-two}
 use mathlib.Core.Path.{_≡_, refl, sym, ap, _∙_}
 use mathlib.Core.Bool.{Bool, true, false, _&&_}
-use mathlib.Core.List.{List, [], _∷_}
+use mathlib.Core.List.{List, _∷_}
 use lib.Dec.{eqb}
 use lib.ListN.{getD, length, take}
 use borrow.Author.Tests.{eq-eqb, ne-eqb, eqb-true, eqb-false}
-use Rattle.rules.specs.Book.{Cell, unknown, isHolding, placed}
+use Rattle.rules.specs.Book.{isHolding, placed}
 use Rattle.lines.specs.Line.{byteAt}
 use Rattle.lines.proofs.Laws.{byte-past}
 use Rattle.row.specs.Decoded.{eachLine, placesAt}

@@ -1,8 +1,7 @@
 -- A line put byte by byte is the line that the checking program prints.
-use Prim.Native.Nat.{ℕ, _/_, _%_, _<_}
-use native.Mathlib.Omega.{arith}
-use mathlib.Core.Path.{_≡_, refl, sym, ap, _∙_}
-use mathlib.Core.List.{List, [], _∷_}
+use Prim.Native.Nat.{ℕ, _/_, _%_}
+use mathlib.Core.Path.{_≡_}
+use mathlib.Core.List.{List}
 use lib.ListN.{set}
 use lib.Seq.{sets}
 use Rattle.rules.specs.Lines.{written, bytesOf}

@@ -1,7 +1,6 @@
 // At the end each place holds its output.
 ghost use mathlib.Core.Path.{_≡_};
 ghost use Prim.Native.Nat.{_+_, _≤_};
-ghost use lib.ListN.{length};
 ghost use Rattle.rules.specs.Book.{placed};
 ghost use Rattle.lines.specs.Line.{byteAt};
 ghost use Rattle.row.specs.Decoded.{placesAt};

@@ -1,20 +1,19 @@
 -- Laws of digits, lines and bytes at a place.
-use Prim.Native.Nat.{ℕ, zero, suc, _+_, _-_, _*_, _/_, _%_, _<_, _≤_}
+use Prim.Native.Nat.{ℕ, suc, _+_, _-_, _*_, _/_, _%_, _<_, _≤_}
 use native.Mathlib.Omega.{arith}
 use native.Mathlib.Numerals.{add-one}
 use native.Mathlib.Decide.{decLt}
-use mathlib.Core.Path.{_≡_, refl, sym, ap, _∙_, subst}
-use mathlib.Core.Bool.{Bool, true, false, _&&_, _||_}
-use mathlib.Core.List.{List, [], _∷_, _++_}
-use lib.Dec.{eqb, ltb, leb}
-use lib.ListN.{getD, length, set, take, drop, drop-of-length-le, length-drop, List·getD-eq-default}
-use lib.Seq.{set-out, drop-cons, getD-drop, drop-drop}
-use borrow.Author.Tests.{ltb-true, ltb-false, lt-leb, le-leb, leb-true, leb-false, eqb-true, eq-eqb, ne-eqb, lt-ltb}
+use mathlib.Core.Path.{_≡_, refl, sym, _∙_}
+use mathlib.Core.Bool.{Bool, true, false, _&&_}
+use mathlib.Core.List.{List}
+use lib.Dec.{ltb, leb}
+use lib.ListN.{getD, length, set, drop, drop-of-length-le, length-drop, List·getD-eq-default}
+use lib.Seq.{set-out, drop-cons, getD-drop}
+use borrow.Author.Tests.{ltb-true, ltb-false, lt-leb, le-leb, leb-true, eq-eqb, ne-eqb}
 use Rattle.rules.specs.Basics.{pick}
 use Rattle.rules.specs.Form.{form01}
 use Rattle.rules.specs.Lines.{isDigit, valueOf, digits, isLine, digitOf}
-use Rattle.rules.proofs.Laws.{by-pick, and-true, or-left, or-right}
-use Rattle.rules.specs.declared.Refusal.{Refusal}
+use Rattle.rules.proofs.Laws.{by-pick, and-true}
 use Rattle.rules.specs.declared.Answer.{Answer}
 use Rattle.lines.specs.declared.Line.{Line}
 use Rattle.lines.specs.declared.Line.the-variants.{Frame, Refused}

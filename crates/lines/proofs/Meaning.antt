@@ -4,18 +4,18 @@ use native.Mathlib.Omega.{arith}
 use native.Mathlib.Numerals.{add-one}
 use native.Mathlib.Decide.{decLt}
 use mathlib.Core.Path.{_≡_, refl, sym, ap, _∙_, subst}
-use mathlib.Core.Bool.{Bool, true, false, _&&_, _||_}
-use mathlib.Core.List.{List, [], _∷_, _++_}
-use mathlib.Core.Option.{Option, none, some}
-use lib.Dec.{eqb, ltb, leb}
+use mathlib.Core.Bool.{Bool, true, false, _&&_}
+use mathlib.Core.List.{List, [], _∷_}
+use mathlib.Core.Option.{none, some}
+use lib.Dec.{eqb, leb}
 use lib.ListN.{getD, length, take, drop, drop-of-length-le, length-drop, List·getD-eq-default}
-use lib.Seq.{drop-cons, getD-drop, drop-drop}
-use borrow.Author.Tests.{lt-leb, le-leb, leb-true, leb-false, eqb-true}
+use lib.Seq.{drop-cons, drop-drop}
+use borrow.Author.Tests.{lt-leb, le-leb, leb-true, eqb-true}
 use Rattle.rules.specs.declared.Refusal.{Refusal}
 use Rattle.rules.specs.declared.Answer.{Answer}
 use Rattle.rules.specs.Basics.{pick}
 use Rattle.rules.specs.Form.{form01, one, two}
-use Rattle.rules.specs.Refusals.{Res, good, refused, _>>=_, _>>_}
+use Rattle.rules.specs.Refusals.{Res, good, refused}
 use Rattle.rules.specs.Lines as rules
 use Rattle.rules.specs.Lines.{valueOf, digits, isLine, bytesIn, firstLine, line, nothing, numbers, also}
 use Rattle.rules.proofs.Laws.{no-way, and-true}

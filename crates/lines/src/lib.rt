@@ -1,7 +1,7 @@
 // Texts: hexadecimal lines read at a place of a slice. Every function takes any slice and any place.
 ghost use mathlib.Core.Path.{_≡_};
-ghost use Prim.Native.Nat.{_+_, _≤_};
-ghost use lib.ListN.{length, drop};
+ghost use Prim.Native.Nat.{_+_};
+ghost use lib.ListN.{drop};
 ghost use Rattle.rules.specs.Basics.{within};
 ghost use Rattle.rules.specs.Lines.{isDigit, valueOf, digits};
 ghost use Rattle.lines.specs.Line.{lineAt, endsAt, byteAt, wordAt, refusalOf};

@@ -1,7 +1,7 @@
 -- What the line at a place answers, by the rule for its kind.
 use Prim.Native.Nat.{ℕ, suc, _+_, _-_, _*_, _/_}
 use native.Mathlib.Omega.{arith}
-use mathlib.Core.Path.{_≡_, refl, sym, ap}
+use mathlib.Core.Path.{_≡_, refl, ap}
 use mathlib.Core.Bool.{Bool, true, false}
 use mathlib.Core.List.{List, [], _∷_}
 use mathlib.Core.Option.{none}
@@ -12,7 +12,7 @@ use Rattle.rules.specs.declared.Refusal.{Refusal}
 use Rattle.rules.specs.declared.Answer.{Answer}
 use Rattle.rules.specs.Basics.{pick}
 use Rattle.rules.specs.Form.{form01, Width, one, two}
-use Rattle.rules.specs.Refusals.{Res, good, refuse, _>>=_, _>>_, require, orRefuse}
+use Rattle.rules.specs.Refusals.{Res, good, _>>=_, _>>_, require, orRefuse}
 use Rattle.rules.specs.Lines.{fields, also}
 use Rattle.rules.specs.Netlist.{due}
 use Rattle.rules.specs.Sequence.{setOf, norOf, instructionOf, placeOf}

@@ -1,16 +1,14 @@
 -- The row: one instruction's work, and the work that is left of a run.
 use Prim.Native.Nat.{ℕ, suc, _+_, _-_, _*_, _<_, _≤_}
 use native.Mathlib.Omega.{arith}
-use native.Mathlib.Numerals.{add-one}
 use mathlib.Core.Path.{_≡_, refl, sym, ap, _∙_}
 use mathlib.Core.Bool.{Bool, true, false}
 use mathlib.Core.List.{List, _∷_}
-use lib.Dec.{eqb, leb}
-use lib.ListN.{getD, length, set, drop, drop-of-length-le}
-use lib.Seq.{drop-cons}
-use borrow.Author.Tests.{lt-leb, le-leb, eq-eqb, ne-eqb}
-use Rattle.rules.specs.Basics.{pick, all, setAll}
-use Rattle.rules.specs.Values.{areBits, nor}
+use lib.Dec.{eqb}
+use lib.ListN.{getD, length, set}
+use borrow.Author.Tests.{le-leb}
+use Rattle.rules.specs.Basics.{pick, setAll}
+use Rattle.rules.specs.Values.{nor}
 use Rattle.rules.specs.Device.{execute}
 use Rattle.lines.specs.Line.{byteAt}
 use Rattle.row.specs.declared.Entry.{Entry}

@@ -1,7 +1,7 @@
 // The row: what one instruction does to it, and a run of so many cycles.
 ghost use mathlib.Core.Path.{_≡_};
 ghost use Prim.Native.Nat.{_+_, _≤_, min};
-ghost use lib.ListN.{length, getD};
+ghost use lib.ListN.{length};
 ghost use Rattle.rules.specs.Basics.{setAll};
 ghost use Rattle.rules.specs.Device.{execute};
 ghost use Rattle.row.specs.Decoded.{cellsFrom, endFrom, norOn, instructionAt, nextAt};

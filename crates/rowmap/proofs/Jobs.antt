@@ -1,29 +1,26 @@
 -- The job line that is read is document 01's.
-use Prim.Native.Nat.{ℕ, zero, suc, _+_, _-_, _/_, _%_, _≤_}
+use Prim.Native.Nat.{ℕ, zero, suc, _+_, _-_, _/_, _%_}
 use native.Mathlib.Omega.{arith}
 use native.Mathlib.Decide.{ℕ-discrete}
-use mathlib.Core.Path.{_≡_, refl, sym, ap, _∙_}
+use mathlib.Core.Path.{_≡_, refl, ap, _∙_}
 use mathlib.Core.Bool.{Bool, true, false}
 use mathlib.Core.List.{List, [], _∷_}
-use mathlib.Core.Option.{some, none}
 use lib.Dec.{eqb}
-use lib.ListN.{getD, drop, set}
-use lib.Seq.{sets}
-use borrow.Author.Tests.{eq-eqb, ne-eqb, eqb-true}
+use lib.ListN.{getD, drop}
+use borrow.Author.Tests.{eq-eqb, ne-eqb}
 use Rattle.rules.specs.declared.Refusal.{Refusal}
 use Rattle.rules.specs.Basics.{pick}
 use Rattle.rules.specs.Form.{form01, one}
 use Rattle.rules.specs.Refusals.{Res, good, refused, refuse, _>>=_, orRefuse}
 use Rattle.rules.specs.Lines as rules
-use Rattle.rules.specs.Lines.{digitOf, written, line, fields, also}
+use Rattle.rules.specs.Lines.{line, fields, also}
 use Rattle.rules.specs.Netlist.{due}
 use Rattle.rules.specs.Mapping.{mappedText}
-use Rattle.rules.specs.Programs.{refusalLine, jobOf, mappingAnswer}
-use Rattle.rules.proofs.Laws.{no-way}
+use Rattle.rules.specs.Programs.{jobOf, mappingAnswer}
 use Rattle.lines.specs.declared.Line.{Line}
 use Rattle.lines.specs.declared.Line.the-variants.{Frame, Refused}
 use Rattle.lines.specs.Line.{lineAt, byteAt, bytesFrom, refusalOf}
-use Rattle.lines.proofs.Meaning.{Fits, frame-fits, line-is, line-not}
+use Rattle.lines.proofs.Meaning.{frame-fits, line-is, line-not}
 use Rattle.rowmap.specs.declared.job.Job.{Job}
 use Rattle.rowmap.specs.Job.{jobFrom, jobAt}
 

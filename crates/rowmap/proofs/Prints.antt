@@ -1,11 +1,11 @@
 -- What stands in the buffer is what the mapping program prints.
-use Prim.Native.Nat.{ℕ, suc, _+_, _/_, _%_, _<_, _≤_}
+use Prim.Native.Nat.{ℕ, _+_, _<_, _≤_}
 use native.Mathlib.Omega.{arith}
 use mathlib.Core.Path.{_≡_, refl, sym, ap, _∙_}
 use mathlib.Core.Bool.{Bool, true, false}
-use mathlib.Core.List.{List, [], _∷_, _++_}
+use mathlib.Core.List.{List, _++_}
 use lib.Dec.{ltb}
-use lib.ListN.{length, take, drop, set}
+use lib.ListN.{length, take, drop}
 use lib.Seq.{sets, sets-eq, take-at}
 use borrow.Author.Tests.{lt-ltb, le-ltb, ltb-true, ltb-false}
 use Rattle.rules.specs.declared.Refusal.{Refusal}
@@ -13,9 +13,9 @@ use Rattle.rules.specs.declared.Answer.{Answer}
 use Rattle.rules.specs.Basics.{pick}
 use Rattle.rules.specs.Form.{form01}
 use Rattle.rules.specs.Refusals.{Res, good, refused, refuse, meaning}
-use Rattle.rules.specs.Lines.{digitOf, written}
+use Rattle.rules.specs.Lines.{written}
 use Rattle.rules.specs.Mapping.{mappedText}
-use Rattle.rules.specs.Programs.{refusalLine, printed, held, mappingAnswer, mappingProgram}
+use Rattle.rules.specs.Programs.{refusalLine, printed, held, mappingProgram}
 use Rattle.rules.specs.Calls.{Outcome, delivered, mapOutcome, rowmapOutput}
 use Rattle.rules.proofs.Laws.{no-way}
 use Rattle.rowmap.specs.declared.job.Job.{Job}

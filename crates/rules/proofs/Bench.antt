@@ -5,7 +5,7 @@ use mathlib.Core.Path.{_≡_, refl}
 use mathlib.Core.List.{List, [], _∷_, _++_}
 use lib.ListN.{length, drop, getD, replicate}
 use Rattle.rules.specs.Form.{form01}
-use Rattle.rules.specs.Refusals.{Res, good, refused, refuse, _>>=_}
+use Rattle.rules.specs.Refusals.{Res, good, refuse, _>>=_}
 use Rattle.rules.specs.Netlist.{Netlist, netlistOf}
 use Rattle.rules.specs.Sequence.{sequenceOf}
 use Rattle.rules.specs.Weight.{weights}

@@ -1,15 +1,15 @@
 -- Laws of choice, refusals, membership and search, for every proof above these definitions.
-use Prim.Native.Nat.{ℕ, zero, suc, _+_, _-_, _<_, _≤_}
+use Prim.Native.Nat.{ℕ, suc, _+_, _-_, _<_}
 use native.Mathlib.Omega.{arith}
-use mathlib.Core.Path.{_≡_, refl, sym, ap, _∙_, subst}
-use mathlib.Core.Bool.{Bool, true, false, _&&_, _||_, not}
-use mathlib.Core.List.{List, [], _∷_, _++_, map}
+use mathlib.Core.Path.{_≡_, refl, sym, _∙_}
+use mathlib.Core.Bool.{Bool, true, false, _&&_, _||_}
+use mathlib.Core.List.{List, [], _∷_, _++_}
 use mathlib.Core.Option.{Option, none, some}
-use lib.Dec.{eqb, ltb, leb}
+use lib.Dec.{eqb}
 use borrow.Author.Tests.{eqb-true, eqb-false, eq-eqb, ne-eqb}
-use lib.ListN.{getD, length, set}
-use Rattle.rules.specs.Basics.{pick, mem, sameList, insert, sort, any, all}
-use Rattle.rules.specs.Refusals.{Res, good, refused, refuse, _>>=_, _>>_, require, orRefuse}
+use lib.ListN.{getD, length}
+use Rattle.rules.specs.Basics.{pick, mem, sameList}
+use Rattle.rules.specs.Refusals.{Res, good, refused, _>>=_, _>>_, require, orRefuse}
 use Rattle.rules.specs.Book.{gateWith}
 
 -- ---- what cannot be

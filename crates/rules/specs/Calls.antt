@@ -1,16 +1,15 @@
 -- The public calls: the answer and every lent byte afterwards, for every input. Contracts cite these.
 -- Assumes nothing.
 use Prim.Native.Nat.{ℕ}
-use mathlib.Core.Bool.{Bool, true, false}
 use mathlib.Core.List.{List, _++_}
 use lib.Dec.{ltb}
 use lib.ListN.{length, drop}
 use Rattle.rules.specs.declared.Answer.{Answer}
 use Rattle.rules.specs.Basics.{pick}
-use Rattle.rules.specs.Form.{Form, form01}
+use Rattle.rules.specs.Form.{form01}
 use Rattle.rules.specs.Refusals.{Res, good, refused, refuse, _>>=_, _>>_, require, meaning}
 use Rattle.rules.specs.Lines.{frameAt, placeAfter}
-use Rattle.rules.specs.Netlist.{Netlist, netlistOf, netlistTail}
+use Rattle.rules.specs.Netlist.{netlistOf, netlistTail}
 use Rattle.rules.specs.Sequence.{Sequence, sequenceOf}
 use Rattle.rules.specs.Values.{outputValues, areBits}
 use Rattle.rules.specs.Device.{run, cycles}

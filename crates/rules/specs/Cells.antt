@@ -1,11 +1,11 @@
 -- Document 01, "The mapping rule": Cells. What one gate does to the mapping state.
 -- Assumes nothing.
-use Prim.Native.Nat.{ℕ, zero, suc, _+_, _-_}
+use Prim.Native.Nat.{ℕ, suc, _+_, _-_}
 use mathlib.Core.Bool.{Bool, true, false, _&&_, _||_, not}
 use mathlib.Core.List.{List, [], _∷_, _++_, map}
 use mathlib.Core.Option.{Option, none, some}
 use lib.Dec.{eqb, leb}
-use lib.ListN.{getD, length, set, replicate}
+use lib.ListN.{set, replicate}
 use Rattle.rules.specs.Basics.{pick, mem, keep, upto, setAll}
 use Rattle.rules.specs.Refusals.{Res, good, refuse, _>>=_}
 use Rattle.rules.specs.Netlist.{Netlist, operandsOf}

@@ -1,7 +1,7 @@
 -- Document 01, "Values and the device": the row. 004, Table I, for the device.
 -- Assumes nothing.
 use Prim.Native.Nat.{ℕ, zero, suc, min}
-use mathlib.Core.Bool.{Bool, true, false}
+use mathlib.Core.Bool.{Bool}
 use mathlib.Core.List.{List, [], _∷_}
 use lib.Dec.{eqb}
 use lib.ListN.{getD, length, set}

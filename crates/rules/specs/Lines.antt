@@ -1,11 +1,11 @@
 -- Document 01, "Lines": the rule for lines, the bytes of a line, and the frame reader.
 -- Assumes nothing.
-use Prim.Native.Nat.{ℕ, zero, suc, _+_, _-_, _*_, _/_, _%_}
-use mathlib.Core.Bool.{Bool, true, false, _&&_, _||_}
-use mathlib.Core.List.{List, [], _∷_, _++_}
+use Prim.Native.Nat.{ℕ, suc, _+_, _-_, _*_, _/_, _%_}
+use mathlib.Core.Bool.{Bool, _&&_, _||_}
+use mathlib.Core.List.{List, [], _∷_}
 use mathlib.Core.Option.{Option, none, some}
-use lib.Dec.{eqb, ltb, leb}
-use lib.ListN.{getD, length, take, drop}
+use lib.Dec.{eqb, ltb}
+use lib.ListN.{getD, take, drop}
 use Rattle.rules.specs.Basics.{pick, within}
 use Rattle.rules.specs.Form.{Form, Width, one, two}
 use Rattle.rules.specs.Refusals.{Res, good, refuse}

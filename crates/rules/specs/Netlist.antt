@@ -1,13 +1,12 @@
 -- Document 01, "Lines": a netlist, its text, and the netlist reader.
 -- Assumes nothing.
 use Prim.Native.Nat.{ℕ, zero, suc, _+_, _-_}
-use mathlib.Core.Bool.{Bool, true, false, _&&_, _||_, not}
+use mathlib.Core.Bool.{Bool, false, _&&_, _||_, not}
 use mathlib.Core.List.{List, [], _∷_, _++_}
-use mathlib.Core.Option.{Option, none, some}
 use lib.Dec.{eqb, ltb, leb}
 use lib.ListN.{getD, length}
 use Rattle.rules.specs.Basics.{pick, within, all, any, mem, repeats, ascending, sameList, upto}
-use Rattle.rules.specs.Form.{Form, Width, one, two}
+use Rattle.rules.specs.Form.{Form, two}
 use Rattle.rules.specs.Refusals.{Res, good, refused, refuse, _>>=_, _>>_, require, orRefuse}
 use Rattle.rules.specs.Lines.{line, nothing, numbers, fields}
 

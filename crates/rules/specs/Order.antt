@@ -1,7 +1,7 @@
 -- Document 01, "The mapping rule": Order.
 -- Assumes nothing.
 use Prim.Native.Nat.{ℕ, zero, suc}
-use mathlib.Core.Bool.{Bool, true, false, not}
+use mathlib.Core.Bool.{not}
 use mathlib.Core.List.{List, [], _∷_, _++_}
 use Rattle.rules.specs.Basics.{pick, mem, keep, each}
 use Rattle.rules.specs.Netlist.{Netlist, operandsOf, gateSignals, isRead}

@@ -1,14 +1,13 @@
 -- Document 01, "Programs": from the bytes of standard input to the bytes of standard output.
 -- Assumes nothing.
 use Prim.Native.Nat.{ℕ, _+_}
-use mathlib.Core.Bool.{Bool, true, false}
 use mathlib.Core.List.{List, [], _∷_}
 use lib.Dec.{ltb}
 use lib.ListN.{getD, length}
 use Rattle.rules.specs.declared.Refusal.{Refusal}
 use Rattle.rules.specs.Basics.{pick}
-use Rattle.rules.specs.Form.{Form, Width, two}
-use Rattle.rules.specs.Refusals.{Res, good, refused, refuse, _>>=_, _>>_, require, orRefuse}
+use Rattle.rules.specs.Form.{Form, two}
+use Rattle.rules.specs.Refusals.{Res, good, refused, refuse, _>>=_, _>>_, orRefuse}
 use Rattle.rules.specs.Lines.{line, fields, bytesOf, written}
 use Rattle.rules.specs.Netlist.{due, netlistLines, wellFormed}
 use Rattle.rules.specs.Sequence.{sequenceOf}

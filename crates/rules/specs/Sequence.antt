@@ -1,16 +1,15 @@
 -- Document 01, "Lines": a sequence, its text read, and its text written.
 -- Assumes nothing.
-use Prim.Native.Nat.{ℕ, zero, suc, _+_, _-_}
-use mathlib.Core.Bool.{Bool, true, false, _&&_, _||_, not}
+use Prim.Native.Nat.{ℕ, _+_, _-_}
+use mathlib.Core.Bool.{not}
 use mathlib.Core.List.{List, [], _∷_, _++_}
-use mathlib.Core.Option.{Option, none, some}
-use lib.Dec.{eqb, ltb, leb}
+use lib.Dec.{eqb, ltb}
 use lib.ListN.{getD, length}
 use Rattle.rules.specs.Basics.{pick, within, all, repeats, ascending}
-use Rattle.rules.specs.Form.{Form, Width, one, two}
-use Rattle.rules.specs.Refusals.{Res, good, refused, refuse, _>>=_, _>>_, require, orRefuse}
+use Rattle.rules.specs.Form.{Form, two}
+use Rattle.rules.specs.Refusals.{Res, good, refuse, _>>=_, _>>_, require, orRefuse}
 use Rattle.rules.specs.Lines.{line, nothing, numbers, fields, bytesOf, written}
-use Rattle.rules.specs.Netlist.{due, Part, lines}
+use Rattle.rules.specs.Netlist.{due, lines}
 
 -- 12 set: 1 to 256 cells; 13 NOR: written cell, then 1 to 4 operand cells
 pub data Instruction : Type 0 where

@@ -1,6 +1,5 @@
 use native.Mathlib.Omega.{arith}
 use Prim.Native.Nat.{_-_}
-use mathlib.Core.Path.{refl}
 use Rattle.rules.specs.Basics.{setAll}
 use Rattle.rules.specs.Book.{ready}
 use Rattle.lines.specs.Line.{bytesFrom}

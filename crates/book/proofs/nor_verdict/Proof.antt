@@ -1,5 +1,4 @@
 use borrow.Author.Tests.{lt-ltb, le-ltb, eq-eqb, ne-eqb}
-use mathlib.Core.Path.{sym, _∙_}
 use Rattle.rules.specs.Basics.{pick}
 use Rattle.book.specs.Steps.{norVerdict}
 use borrow.Author.Needs.{needs}

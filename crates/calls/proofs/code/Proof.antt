@@ -1,4 +1,3 @@
-use Rattle.rules.specs.Refusals.{meaning}
 use Rattle.calls.specs.Coded.{coded}
 use borrow.Author.Needs.{needs}
 use Rattle.calls.proofs.code.Statement.{statement}

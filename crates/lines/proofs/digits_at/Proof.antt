@@ -1,10 +1,8 @@
-use mathlib.Core.Path.{_≡_, refl, sym, _∙_}
-use Prim.Native.Nat.{_+_, _-_, _≤_}
-use native.Mathlib.Omega.{arith}
+use mathlib.Core.Path.{sym, _∙_}
+use Prim.Native.Nat.{_-_}
 use borrow.Author.Needs.{needs}
 use borrow.Author.Tests.{not-true, not-false}
-use lib.ListN.{length, drop}
-use Rattle.rules.specs.Lines.{digits}
+use lib.ListN.{length}
 use Rattle.lines.proofs.Laws.{Scanned, scanned-start, scanned-turn, scanned-stop, scanned-end}
 use Rattle.lines.proofs.digits_at.Statement.{statement}
 use Rattle.lines.proofs.digits_at.Tie as tie

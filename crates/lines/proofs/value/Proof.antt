@@ -1,4 +1,3 @@
-use native.Mathlib.Omega.{arith}
 use mathlib.Core.Path.{sym}
 use Rattle.lines.proofs.Laws.{value-low, value-high, value-gap, value-none, value-quick}
 use borrow.Author.Needs.{needs}

@@ -1,4 +1,3 @@
-use native.Mathlib.Omega.{arith}
 use borrow.Author.Needs.{needs}
 use Rattle.checker.proofs.Ordering.{Sorted, sorted-start, sorted-turn, sorted-low, sorted-high, sorted-end}
 use Rattle.checker.proofs.operands.read.Statement.{statement}

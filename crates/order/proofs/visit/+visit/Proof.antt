@@ -2,7 +2,7 @@
 use native.Mathlib.Omega.{arith}
 use Prim.Native.Nat.{_-_}
 use borrow.Author.Tests.{eq-eqb, ne-eqb}
-use mathlib.Core.Path.{refl, sym, _∙_, ap}
+use mathlib.Core.Path.{refl, sym, _∙_}
 use Rattle.order.proofs.Walking.{Walking, walking-start, walking-turn, walking-done, walking-none, operand-lower}
 use borrow.Author.Needs.{needs}
 use Prim.Native.Nat.{ℕ, _<_}
