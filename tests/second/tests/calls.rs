@@ -3,15 +3,6 @@
 mod common;
 use common::*;
 
-/// A sequence of row 5, two inputs, one output: these instructions, place 3.
-fn sequence(instructions: &[&str]) -> String {
-    let lines: String = instructions
-        .iter()
-        .map(|line| format!("{line}\n"))
-        .collect();
-    format!("11040201{:04X}\n{lines}1403\n", instructions.len())
-}
-
 #[test]
 fn tails() {
     let tail = |text: &str| second::tail(text.as_bytes());

@@ -1,4 +1,4 @@
-//! The numbers that texts give, and the readings of READINGS.md about them.
+//! The numbers that texts give, and the easily misread places of document 01 about them.
 
 mod common;
 use common::*;
@@ -6,15 +6,6 @@ use common::*;
 /// The whole case's netlist with one line replaced.
 fn netlist_with(old: &str, new: &str) -> u8 {
     number(&with_line(XOR, old, new))
-}
-
-/// A sequence of row 5, two inputs, one output: these instructions, place 3.
-fn sequence(instructions: &[&str]) -> String {
-    let lines: String = instructions
-        .iter()
-        .map(|line| format!("{line}\n"))
-        .collect();
-    format!("11040201{:04X}\n{lines}1403\n", instructions.len())
 }
 
 /// The number of a sequence whose one instruction is this line.

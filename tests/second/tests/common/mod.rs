@@ -12,6 +12,15 @@ pub const XOR_ROW_5: &str =
 /// One input, one NOT.
 pub const NOT: &str = "0101000101\n020000\n030001\n";
 
+/// A sequence of row 5, two inputs, one output: these instructions, place 3.
+pub fn sequence(instructions: &[&str]) -> String {
+    let lines: String = instructions
+        .iter()
+        .map(|line| format!("{line}\n"))
+        .collect();
+    format!("11040201{:04X}\n{lines}1403\n", instructions.len())
+}
+
 /// What map writes, or its number; a refusal must leave the buffer alone.
 pub fn map(row: u64, text: &str) -> Result<String, u8> {
     let mut out = vec![0xAA; 65_536];
