@@ -4,7 +4,7 @@ use crate::calls;
 use crate::given::{hold, Given};
 use crate::sequences;
 use crate::tally::Tally;
-use second::generate::{damaged, netlist, text_of, Random};
+use second::generate::{damaged, netlist, sequence_for, text_of, Random};
 
 pub fn once(r: &mut Random, tally: &mut Tally) {
     let most = if r.once_in(60) { 512 } else { 24 };
@@ -16,7 +16,7 @@ pub fn once(r: &mut Random, tally: &mut Tally) {
     }
     if r.once_in(8) {
         let other = netlist(r, 12);
-        sequence = sequences::whole(r, &other);
+        sequence = sequence_for(r, &other);
     }
     tally.note("check", &second::check(&text, &sequence));
     let given = Given {
