@@ -1,5 +1,7 @@
 //! The proved calls. An answer is its value, or minus the refusal's number.
 
+use std::sync::atomic::{AtomicU64, Ordering};
+
 extern "C" {
     fn bhedhmurali_map(
         row: usize,
@@ -38,8 +40,20 @@ extern "C" {
 /// A call's answer: the value, or the refusal's number.
 pub type Answer = Result<usize, u8>;
 
+static CALLS: AtomicU64 = AtomicU64::new(0);
+
+/// How many calls the library has answered.
+pub fn calls_made() -> u64 {
+    CALLS.load(Ordering::Relaxed)
+}
+
+fn counted<T>(said: T) -> T {
+    CALLS.fetch_add(1, Ordering::Relaxed);
+    said
+}
+
 fn answer(coded: i64) -> Answer {
-    usize::try_from(coded).map_err(|_| u8::try_from(-coded).unwrap_or(u8::MAX))
+    usize::try_from(counted(coded)).map_err(|_| u8::try_from(-coded).unwrap_or(u8::MAX))
 }
 
 pub fn map(row: u64, text: &[u8], out: &mut [u8]) -> Answer {
@@ -65,7 +79,7 @@ pub fn read(text: &[u8]) -> Answer {
 
 /// Where the part of the text that follows the netlist begins.
 pub fn tail(text: &[u8]) -> usize {
-    unsafe { bhedhmurali_tail(text.as_ptr(), text.len()) }
+    counted(unsafe { bhedhmurali_tail(text.as_ptr(), text.len()) })
 }
 
 pub fn evaluate(text: &[u8], inputs: &[u8], out: &mut [u8]) -> Answer {
@@ -98,8 +112,8 @@ pub fn simulate(text: &[u8], row: &mut [u8], budget: u64) -> Answer {
 pub fn frame(text: &[u8], at: usize) -> (usize, usize) {
     unsafe {
         (
-            bhedhmurali_frame(text.as_ptr(), text.len(), at),
-            bhedhmurali_next(text.as_ptr(), text.len(), at),
+            counted(bhedhmurali_frame(text.as_ptr(), text.len(), at)),
+            counted(bhedhmurali_next(text.as_ptr(), text.len(), at)),
         )
     }
 }
