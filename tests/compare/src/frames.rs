@@ -11,12 +11,12 @@ pub fn once(r: &mut Random, tally: &mut Tally) -> Held {
     if !r.once_in(4) {
         text = damaged(r, &text);
     }
-    let places = [r.below(text.len() + 3), usize::MAX];
+    let places = [r.below(text.len() + 3) as u64, u64::MAX];
     walked(tally, text, &places)
 }
 
 /// Every frame from the start on, and at some places more.
-pub fn walked(tally: &mut Tally, text: Vec<u8>, places: &[usize]) -> Held {
+pub fn walked(tally: &mut Tally, text: Vec<u8>, places: &[u64]) -> Held {
     let mut given = Given {
         texts: vec![text],
         numbers: vec![0],
@@ -32,7 +32,7 @@ pub fn walked(tally: &mut Tally, text: Vec<u8>, places: &[usize]) -> Held {
         given.numbers = vec![next];
     }
     for place in places {
-        given.numbers = vec![*place as u64];
+        given.numbers = vec![*place];
         hold(tally, "frame", calls::frame, &given)?;
     }
     Ok(())

@@ -1,5 +1,6 @@
 //! Compares the proved library with the second program, call by call, and stops at the first difference, reduced.
 
+pub mod bits;
 pub mod calls;
 pub mod frames;
 pub mod laws;

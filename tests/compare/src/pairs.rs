@@ -2,11 +2,8 @@
 
 use crate::given::{hold, Given, Held};
 use crate::tally::Tally;
-use crate::{calls, laws, sequences};
+use crate::{bits, calls, laws, sequences};
 use second::generate::{damaged, netlist, sequence_for, text_of, Random};
-
-/// The most cells of a row.
-const MOST_CELLS: usize = 256;
 
 pub fn once(r: &mut Random, tally: &mut Tally) -> Held {
     let given = made(r);
@@ -34,7 +31,7 @@ pub fn pair(r: &mut Random, most_gates: usize) -> Given {
     }
     Given {
         texts: vec![text, sequence],
-        bytes: r.bits(MOST_CELLS),
+        bytes: bits::row(r),
         ..Given::default()
     }
 }

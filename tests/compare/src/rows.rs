@@ -1,9 +1,8 @@
 //! Rows: simulate, under every budget from 0 to the count and some over it.
 
-use crate::calls;
 use crate::given::{hold, Given, Held};
-use crate::sequences;
 use crate::tally::Tally;
+use crate::{bits, calls, sequences};
 use second::generate::{netlist, Random};
 
 pub fn once(r: &mut Random, tally: &mut Tally) -> Held {
@@ -13,7 +12,7 @@ pub fn once(r: &mut Random, tally: &mut Tally) -> Held {
     let (cells, instructions) =
         second::read_sequence(&text).map_or((5, 2), |s| (s.row, s.instructions.len()));
     let mut given = Given {
-        bytes: row(r, cells),
+        bytes: bits::any(r, cells, 20),
         texts: vec![text],
         ..Given::default()
     };
@@ -22,16 +21,6 @@ pub fn once(r: &mut Random, tally: &mut Tally) -> Held {
         hold(tally, "simulate", calls::simulate, &given)?;
     }
     Ok(())
-}
-
-/// A row of zeros and ones, now and then too long or with another byte.
-fn row(r: &mut Random, cells: usize) -> Vec<u8> {
-    let more = usize::from(r.once_in(20));
-    let mut row = r.bits(cells + more);
-    if r.once_in(20) {
-        row[0] = 2 + r.below(254) as u8;
-    }
-    row
 }
 
 /// Every budget where the sequence is short, else some of them.

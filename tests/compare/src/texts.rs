@@ -1,8 +1,8 @@
 //! Netlist texts, good and damaged: the reading's number, the tail, and evaluate.
 
-use crate::calls;
 use crate::given::{hold, Given, Held};
 use crate::tally::Tally;
+use crate::{bits, calls};
 use second::generate::{damaged, netlist, text_of, Random};
 
 pub fn once(r: &mut Random, tally: &mut Tally) -> Held {
@@ -42,16 +42,10 @@ fn edges() -> Vec<Vec<u8>> {
 }
 
 fn one(r: &mut Random, text: Vec<u8>, inputs: usize, tally: &mut Tally) -> Held {
-    let more = usize::from(r.once_in(10));
-    let mut bits = r.bits(inputs + more);
-    if r.once_in(10) {
-        bits[0] = 2 + r.below(254) as u8;
-    }
-    let size = r.pick(&[0, 1, 2, 64, 70]).unwrap_or(0);
     let given = Given {
         texts: vec![text],
-        bytes: bits,
-        numbers: vec![size],
+        bytes: bits::any(r, inputs, 10),
+        numbers: vec![r.pick(&[0, 1, 2, 64, 70]).unwrap_or(0)],
     };
     hold(tally, "read", calls::read, &given)?;
     hold(tally, "tail", calls::tail, &given)?;
