@@ -23,22 +23,34 @@ struct Call {
 const CALLS: [Call; 4] = [
     Call {
         name: "map",
-        library: |case| _ = black_box(proved::map(case.row, &case.netlist, &mut case.out)),
+        library: |case| _ = black_box(bhedhmurali::map(case.row, &case.netlist, &mut case.out)),
         second: |case| _ = black_box(second::map(case.row, &case.netlist, &mut case.out)),
     },
     Call {
         name: "check",
-        library: |case| _ = black_box(proved::check(&case.netlist, &case.sequence)),
+        library: |case| _ = black_box(bhedhmurali::check(&case.netlist, &case.sequence)),
         second: |case| _ = black_box(second::check(&case.netlist, &case.sequence)),
     },
     Call {
         name: "simulate",
-        library: |case| _ = black_box(proved::simulate(&case.sequence, &mut case.cells, u64::MAX)),
+        library: |case| {
+            _ = black_box(bhedhmurali::simulate(
+                &case.sequence,
+                &mut case.cells,
+                u64::MAX,
+            ))
+        },
         second: |case| _ = black_box(second::simulate(&case.sequence, &mut case.cells, u64::MAX)),
     },
     Call {
         name: "evaluate",
-        library: |case| _ = black_box(proved::evaluate(&case.netlist, &case.inputs, &mut case.out)),
+        library: |case| {
+            _ = black_box(bhedhmurali::evaluate(
+                &case.netlist,
+                &case.inputs,
+                &mut case.out,
+            ))
+        },
         second: |case| _ = black_box(second::evaluate(&case.netlist, &case.inputs, &mut case.out)),
     },
 ];

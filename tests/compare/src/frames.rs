@@ -1,35 +1,39 @@
 //! The frame reader: a text read frame by frame from the start, and at any place.
 
 use crate::calls;
-use crate::given::{hold, Given};
+use crate::given::{hold, Given, Held};
 use crate::tally::Tally;
 use second::generate::{damaged, netlist, text_of, Random};
 
-pub fn once(r: &mut Random, tally: &mut Tally) {
+pub fn once(r: &mut Random, tally: &mut Tally) -> Held {
     let netlist = netlist(r, 12);
     let mut text = text_of(&netlist);
     if !r.once_in(4) {
         text = damaged(r, &text);
     }
-    let mut at = 0;
+    let places = [r.below(text.len() + 3) as u64, u64::MAX];
+    walked(tally, text, &places)
+}
+
+/// Every frame from the start on, and at some places more.
+pub fn walked(tally: &mut Tally, text: Vec<u8>, places: &[u64]) -> Held {
+    let mut given = Given {
+        texts: vec![text],
+        numbers: vec![0],
+        ..Given::default()
+    };
     loop {
-        one(&text, at);
-        tally.note("frame", &Ok::<_, u8>(()));
-        let next = second::frame(&text, at).2;
+        hold(tally, "frame", calls::frame, &given)?;
+        let at = given.numbers[0];
+        let next = second::frame(&given.texts[0], at as usize).2 as u64;
         if next == at {
             break;
         }
-        at = next;
+        given.numbers = vec![next];
     }
-    one(&text, r.below(text.len() + 3));
-    one(&text, usize::MAX);
-}
-
-fn one(text: &[u8], at: usize) {
-    let given = Given {
-        texts: vec![text.to_vec()],
-        numbers: vec![at as u64],
-        ..Given::default()
-    };
-    hold(calls::frame, given);
+    for place in places {
+        given.numbers = vec![*place];
+        hold(tally, "frame", calls::frame, &given)?;
+    }
+    Ok(())
 }

@@ -1,6 +1,7 @@
-//! What a call was given, and a smaller case of the same difference.
+//! What a call was given, what came of it, and a smaller case of the same difference.
 
-use std::process::exit;
+use crate::tally::Tally;
+use std::fmt::{Display, Formatter};
 
 /// Texts, bytes and numbers, as the call takes them.
 #[derive(Clone, Default)]
@@ -10,51 +11,86 @@ pub struct Given {
     pub numbers: Vec<u64>,
 }
 
-/// How a call differs on what it is given, if it does.
-pub type Differ = fn(&Given) -> Option<String>;
-
-/// Stops at a difference, with the smallest case that was found to differ.
-pub fn hold(differ: Differ, given: Given) {
-    if differ(&given).is_none() {
-        return;
-    }
-    let small = reduced(differ, given);
-    for text in &small.texts {
-        println!(
-            "text of {} bytes: {:?}",
-            text.len(),
-            String::from_utf8_lossy(text)
-        );
-    }
-    println!("bytes: {:?}, numbers: {:?}", small.bytes, small.numbers);
-    println!("{}", differ(&small).unwrap_or_default());
-    exit(1);
+/// What came of a comparison, or of a law.
+pub enum Verdict {
+    /// It holds, and this number of refusal came of it; 0 stands for an answer.
+    Holds(u8),
+    /// The law says nothing of what was given.
+    Silent,
+    Differs(String),
 }
 
-/// Takes lines, and then characters, away while the difference stays.
-fn reduced(differ: Differ, given: Given) -> Given {
-    let mut small = given;
-    for place in 0..small.texts.len() {
-        for split in [
-            after_line_feeds as fn(&[u8]) -> Vec<Vec<u8>>,
-            single_characters,
-        ] {
-            let mut pieces = split(&small.texts[place]);
-            let mut at = 0;
-            while at < pieces.len() {
-                let piece = pieces.remove(at);
-                let mut fewer = small.clone();
-                fewer.texts[place] = pieces.concat();
-                if differ(&fewer).is_some() {
-                    small = fewer;
-                } else {
-                    pieces.insert(at, piece);
-                    at += 1;
-                }
+/// A comparison or a law, tried on what it is given.
+pub type Differ = fn(&Given) -> Verdict;
+
+/// The smallest case that was found to differ, and how it differs.
+pub struct Difference {
+    name: &'static str,
+    small: Given,
+    said: String,
+}
+
+/// Nothing, or the first difference.
+pub type Held = Result<(), Difference>;
+
+/// Tries and counts it; a difference is reduced.
+pub fn hold(tally: &mut Tally, name: &'static str, differ: Differ, given: &Given) -> Held {
+    match differ(given) {
+        Verdict::Holds(number) => tally.note(name, number),
+        Verdict::Silent => {}
+        Verdict::Differs(said) => return Err(reduced(name, differ, given, said)),
+    }
+    Ok(())
+}
+
+impl Display for Difference {
+    fn fmt(&self, f: &mut Formatter) -> std::fmt::Result {
+        for text in &self.small.texts {
+            let (length, shown) = (text.len(), String::from_utf8_lossy(text));
+            writeln!(f, "text of {length} bytes: {shown:?}")?;
+        }
+        let Given { bytes, numbers, .. } = &self.small;
+        writeln!(f, "bytes: {bytes:?}, numbers: {numbers:?}")?;
+        write!(f, "{}: {}", self.name, self.said)
+    }
+}
+
+/// Takes lines, then characters, then bytes away while it differs.
+fn reduced(name: &'static str, differ: Differ, given: &Given, said: String) -> Difference {
+    let small = given.clone();
+    let mut least = Difference { name, small, said };
+    for place in 0..given.texts.len() {
+        for split in [after_line_feeds, single_characters] {
+            let pieces = split(&least.small.texts[place]);
+            least.drop_pieces(differ, pieces, |given, text| given.texts[place] = text);
+        }
+    }
+    let bytes = single_characters(&least.small.bytes);
+    least.drop_pieces(differ, bytes, |given, bytes| given.bytes = bytes);
+    least
+}
+
+impl Difference {
+    /// Leaves out every piece without which it still differs.
+    fn drop_pieces(
+        &mut self,
+        differ: Differ,
+        mut pieces: Vec<Vec<u8>>,
+        put: impl Fn(&mut Given, Vec<u8>),
+    ) {
+        let mut at = 0;
+        while at < pieces.len() {
+            let piece = pieces.remove(at);
+            let mut fewer = self.small.clone();
+            put(&mut fewer, pieces.concat());
+            if let Verdict::Differs(said) = differ(&fewer) {
+                (self.small, self.said) = (fewer, said);
+            } else {
+                pieces.insert(at, piece);
+                at += 1;
             }
         }
     }
-    small
 }
 
 fn after_line_feeds(text: &[u8]) -> Vec<Vec<u8>> {

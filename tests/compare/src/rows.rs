@@ -1,40 +1,26 @@
 //! Rows: simulate, under every budget from 0 to the count and some over it.
 
-use crate::calls;
-use crate::given::{hold, Given};
-use crate::sequences;
+use crate::given::{hold, Given, Held};
 use crate::tally::Tally;
+use crate::{bits, calls, sequences};
 use second::generate::{netlist, Random};
 
-pub fn once(r: &mut Random, tally: &mut Tally) {
+pub fn once(r: &mut Random, tally: &mut Tally) -> Held {
     let most = if r.once_in(40) { 512 } else { 12 };
     let netlist = netlist(r, most);
     let text = sequences::any(r, &netlist);
     let (cells, instructions) =
         second::read_sequence(&text).map_or((5, 2), |s| (s.row, s.instructions.len()));
-    let row = row(r, cells);
+    let mut given = Given {
+        bytes: bits::any(r, cells, 20),
+        texts: vec![text],
+        ..Given::default()
+    };
     for budget in budgets(r, instructions) {
-        tally.note(
-            "simulate",
-            &second::simulate(&text, &mut row.clone(), budget),
-        );
-        let given = Given {
-            texts: vec![text.clone()],
-            bytes: row.clone(),
-            numbers: vec![budget],
-        };
-        hold(calls::simulate, given);
+        given.numbers = vec![budget];
+        hold(tally, "simulate", calls::simulate, &given)?;
     }
-}
-
-/// A row of zeros and ones, now and then too long or with another byte.
-fn row(r: &mut Random, cells: usize) -> Vec<u8> {
-    let more = usize::from(r.once_in(20));
-    let mut row = r.bits(cells + more);
-    if r.once_in(20) {
-        row[0] = 2 + r.below(254) as u8;
-    }
-    row
+    Ok(())
 }
 
 /// Every budget where the sequence is short, else some of them.

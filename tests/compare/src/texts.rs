@@ -1,14 +1,14 @@
 //! Netlist texts, good and damaged: the reading's number, the tail, and evaluate.
 
-use crate::calls;
-use crate::given::{hold, Given};
+use crate::given::{hold, Given, Held};
 use crate::tally::Tally;
+use crate::{bits, calls};
 use second::generate::{damaged, netlist, text_of, Random};
 
-pub fn once(r: &mut Random, tally: &mut Tally) {
+pub fn once(r: &mut Random, tally: &mut Tally) -> Held {
     if r.once_in(500) {
         for text in edges() {
-            one(r, text, 2, tally);
+            one(r, text, 2, tally)?;
         }
     }
     let most = if r.once_in(50) { 512 } else { 24 };
@@ -17,7 +17,7 @@ pub fn once(r: &mut Random, tally: &mut Tally) {
     if !r.once_in(4) {
         text = damaged(r, &text);
     }
-    one(r, text, netlist.inputs, tally);
+    one(r, text, netlist.inputs, tally)
 }
 
 /// Texts at the edges of the rule for lines and of a head's numbers.
@@ -41,24 +41,13 @@ fn edges() -> Vec<Vec<u8>> {
     texts
 }
 
-fn one(r: &mut Random, text: Vec<u8>, inputs: usize, tally: &mut Tally) {
-    let more = usize::from(r.once_in(10));
-    let mut bits = r.bits(inputs + more);
-    if r.once_in(10) {
-        bits[0] = 2 + r.below(254) as u8;
-    }
-    let size = r.pick(&[0, 1, 2, 64, 70]).unwrap_or(0);
-    tally.note("read", &second::read(&text));
-    tally.note(
-        "evaluate",
-        &second::evaluate(&text, &bits, &mut vec![0; size]),
-    );
+fn one(r: &mut Random, text: Vec<u8>, inputs: usize, tally: &mut Tally) -> Held {
     let given = Given {
         texts: vec![text],
-        bytes: bits,
-        numbers: vec![size as u64],
+        bytes: bits::any(r, inputs, 10),
+        numbers: vec![r.pick(&[0, 1, 2, 64, 70]).unwrap_or(0)],
     };
-    hold(calls::read, given.clone());
-    hold(calls::tail, given.clone());
-    hold(calls::evaluate, given);
+    hold(tally, "read", calls::read, &given)?;
+    hold(tally, "tail", calls::tail, &given)?;
+    hold(tally, "evaluate", calls::evaluate, &given)
 }

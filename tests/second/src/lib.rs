@@ -23,7 +23,7 @@ pub use frames::frame;
 pub use lines::push_line;
 pub use netlist::{read, tail, Gate, Netlist};
 pub use order::order;
-pub use programs::{rowcheck, rowmap, HELD};
+pub use programs::{printed_refusal, rowcheck, rowmap, run_program, HELD};
 pub use sequence::{read_sequence, Instruction, Nor, Sequence};
 pub use values::{evaluate, values};
 pub use weights::weights;

@@ -1,5 +1,7 @@
 //! The two programs over the library: input bytes to printed bytes.
 
+use std::io::{self, stdin, stdout, Read, Write};
+
 use crate::checker::check_read;
 use crate::lines::{push_line, Lines};
 use crate::netlist::read_part;
@@ -16,6 +18,23 @@ pub fn rowmap(input: &[u8]) -> Vec<u8> {
 /// A netlist and then a sequence; prints 1E and the cycles, or 1F and the number.
 pub fn rowcheck(input: &[u8]) -> Vec<u8> {
     check_input(input).map_or_else(refused, passed)
+}
+
+/// Runs one of them from standard input to standard output.
+pub fn run_program(program: fn(&[u8]) -> Vec<u8>) -> io::Result<()> {
+    let mut input = Vec::new();
+    // One byte past what a program holds is enough to know that the input is too long.
+    stdin()
+        .lock()
+        .take(HELD as u64 + 1)
+        .read_to_end(&mut input)?;
+    stdout().lock().write_all(&program(&input))
+}
+
+/// The number that a program printed as its refusal.
+pub fn printed_refusal(printed: &[u8]) -> Option<u8> {
+    let digits = printed.strip_prefix(b"1F")?.get(..2)?;
+    u8::from_str_radix(std::str::from_utf8(digits).ok()?, 16).ok()
 }
 
 fn map_input(input: &[u8]) -> Result<Vec<u8>, u8> {

@@ -44,6 +44,21 @@ pub struct Sequence {
 }
 
 impl Sequence {
+    /// Which cells it sets or writes.
+    pub fn named(&self) -> Vec<bool> {
+        let mut named = vec![false; self.row];
+        for instruction in &self.instructions {
+            let cells = match instruction {
+                Instruction::Set(cells) => cells,
+                Instruction::Nor(nor) => std::slice::from_ref(&nor.written),
+            };
+            cells
+                .iter()
+                .for_each(|cell| named[usize::from(*cell)] = true);
+        }
+        named
+    }
+
     /// The sequence's text; the head's numbers are those of the lists.
     pub fn text(&self) -> Vec<u8> {
         let mut text = Vec::new();

@@ -1,7 +1,7 @@
 //! Damaged texts make every number that a call can give.
 
-use second::generate::{damaged, foreign, netlist, text_of, Random};
-use second::Netlist;
+use second::generate::{damaged, netlist, sequence_for, text_of, Random};
+use second::printed_refusal;
 
 /// How often each number was given; 0 stands for an answer.
 #[derive(Default)]
@@ -21,21 +21,6 @@ impl Seen {
             );
         }
     }
-}
-
-/// A sequence of a netlist: mapped, or from another producer.
-fn sequence(r: &mut Random, netlist: &Netlist) -> Vec<u8> {
-    let row = r.between(netlist.inputs + 1, 256);
-    let mapped = || {
-        second::mapped(netlist, row)
-            .or_else(|_| second::mapped(netlist, 256))
-            .ok()
-    };
-    let sequence = match r.once_in(2) {
-        true => mapped(),
-        false => foreign(r, netlist, row).or_else(mapped),
-    };
-    sequence.map_or(Vec::new(), |sequence| sequence.text())
 }
 
 #[test]
@@ -76,7 +61,7 @@ fn sequence_calls() {
     let (mut check, mut simulate) = (Seen::default(), Seen::default());
     for _ in 0..50_000 {
         let netlist = netlist(r, 24);
-        let (mut text, mut sequence) = (text_of(&netlist), sequence(r, &netlist));
+        let (mut text, mut sequence) = (text_of(&netlist), sequence_for(r, &netlist));
         match r.below(8) {
             0 => text = damaged(r, &text),
             1 => {}
@@ -105,19 +90,14 @@ fn sequence_calls() {
 fn programs() {
     let r = &mut Random::new(12);
     let (mut map, mut check) = (Seen::default(), Seen::default());
-    let printed = |text: Vec<u8>| match text.strip_prefix(b"1F") {
-        Some(number) => {
-            Err(u8::from_str_radix(std::str::from_utf8(&number[..2]).unwrap(), 16).unwrap())
-        }
-        None => Ok(()),
-    };
+    let printed = |text: Vec<u8>| printed_refusal(&text).map_or(Ok(()), Err);
     for _ in 0..20_000 {
         let netlist = netlist(r, 16);
         let mut job = format!("0F{:02X}\n", r.below(40)).into_bytes();
         job.extend(text_of(&netlist));
         map.note(printed(second::rowmap(&damaged(r, &job))));
         let mut both = text_of(&netlist);
-        both.extend(sequence(r, &netlist));
+        both.extend(sequence_for(r, &netlist));
         check.note(printed(second::rowcheck(&damaged(r, &both))));
     }
     map.exactly("rowmap", &[0, 1, 2, 3, 4, 5, 6, 7, 8, 9]);

@@ -27,20 +27,6 @@ fn mapped(row: u64, text: &[u8]) -> Option<(Vec<u8>, Sequence)> {
     Some((out, sequence))
 }
 
-/// The cells that a sequence names in sets and as written.
-fn named(sequence: &Sequence) -> Vec<bool> {
-    let mut named = vec![false; sequence.row];
-    for instruction in &sequence.instructions {
-        match instruction {
-            Instruction::Set(cells) => cells
-                .iter()
-                .for_each(|cell| named[usize::from(*cell)] = true),
-            Instruction::Nor(nor) => named[usize::from(nor.written)] = true,
-        }
-    }
-    named
-}
-
 /// A whole run from any row: inputs and unnamed cells stay, places hold what evaluate says.
 fn runs_well(r: &mut Random, netlist: &Netlist, text: &[u8], sequence: &Sequence) {
     let before = r.bits(sequence.row);
@@ -59,7 +45,7 @@ fn runs_well(r: &mut Random, netlist: &Netlist, text: &[u8], sequence: &Sequence
     for (place, value) in sequence.places.iter().zip(values) {
         assert_eq!(row[usize::from(*place)], value);
     }
-    for (cell, named) in named(sequence).into_iter().enumerate() {
+    for (cell, named) in sequence.named().into_iter().enumerate() {
         assert!(named || row[cell] == before[cell]);
         assert!(cell >= netlist.inputs || !named);
     }

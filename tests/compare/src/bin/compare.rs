@@ -18,7 +18,10 @@ fn main() {
     let mut r = Random::new(number(2).unwrap_or(1));
     let mut tally = Tally::default();
     for _ in 0..times {
-        (kind.once)(&mut r, &mut tally);
+        if let Err(difference) = (kind.once)(&mut r, &mut tally) {
+            println!("{difference}");
+            exit(1);
+        }
     }
     tally.print();
     for (call, numbers) in kind.numbers {

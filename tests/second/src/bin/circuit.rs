@@ -4,8 +4,10 @@ use second::generate::{classifier, comparator, full_adder, multiplier, parity, t
 use second::Netlist;
 use std::io::{stdout, Write};
 
-/// Each circuit with its name and what it is.
-const CIRCUITS: [(&str, &str, fn() -> Netlist); 5] = [
+/// A circuit's name, what it is, and how it is made.
+type Circuit = (&'static str, &'static str, fn() -> Netlist);
+
+const CIRCUITS: [Circuit; 5] = [
     ("full_adder", "inputs a, b, carry; outputs sum and carry", full_adder),
     ("comparator", "two numbers of 4 bits; outputs less, equal, greater", || comparator(4)),
     ("parity", "1 where an odd number of 8 inputs is 1", || parity(8)),

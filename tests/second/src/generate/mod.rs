@@ -6,6 +6,7 @@ mod damage;
 mod foreign;
 mod least;
 mod random;
+mod sequence;
 mod shapes;
 
 pub use builder::{Builder, Wire};
@@ -17,6 +18,7 @@ pub use damage::damaged;
 pub use foreign::foreign;
 pub use least::least_row;
 pub use random::Random;
+pub use sequence::sequence_for;
 pub use shapes::{
     chain, many_outputs, mixture, netlist, read_outputs, sharing, tree, wide, SHAPES,
 };
