@@ -1,8 +1,9 @@
 // From the bytes of standard input to the bytes of standard output.
 ghost use mathlib.Core.Path.{_≡_};
-ghost use lib.ListN.{length, take};
-ghost use Rattle.rules.specs.Calls.{rowmapOutput};
+ghost use lib.ListN.{length};
+ghost use lib.Seq.{sets};
 ghost use Rattle.rowmap.specs.Job.{jobAt, refusedBy};
+ghost use Rattle.rowmap.specs.Printed.{rowmapIn};
 use lines::Line;
 use rules::Answer;
 use rules::Refusal;
@@ -40,9 +41,10 @@ fn read_job(input: &[u8]) -> Job
     Job::Row(lines::byte_at(input, 2) + 1)
 }
 
-// What the mapping program prints, in the first bytes of a buffer of as many bytes as a program holds; the answer is its length.
+// What the mapping program prints with a buffer of so many bytes stands in its first bytes, and the answer is its length.
 pub(crate) fn program(input: &[u8], out: &mut [u8]) -> usize
-    ensures { λ r. ⌜ (length (now (out .entry)) ≡ 65536 → take r (now (out .exit)) ≡ rowmapOutput (now (input .entry))) ⌝ }
+    ensures { λ r. ⌜ (r ≡ length (rowmapIn (length (now (out .entry))) (now (input .entry))))
+        × (now (out .exit) ≡ sets (now (out .entry)) 0 (rowmapIn (length (now (out .entry))) (now (input .entry)))) ⌝ }
 {
     if 65536 < input.len() {
         lines::write::put_refusal(out, Refusal { number: 1 });
