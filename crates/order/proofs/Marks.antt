@@ -69,6 +69,7 @@ module _ (done seq : List ℕ) (n s : ℕ) (w : Tied done seq n) (h : s < length
         tied = record {
           wide = simp length-set (w .wide);
           size = omega (arith, w .size, ones-set done s h (w .mark s h ∙ e));
+          behind = λ i l. getD-set-other seq n i s 0 (λ k. omega arith) ∙ w .behind i (omega arith);
           mark = λ i l. rw o (mark-after done (take n seq) s h i (w .mark i (rw (length-set done s 1) at l)));
         };
         same = simp length-set;

@@ -137,18 +137,18 @@ unfolding zeros ones pick
 ones-zeros zero = refl
 ones-zeros (suc n) = ones-zeros n
 
-pub tied-start : (seq : List ℕ) (n : ℕ) → length seq ≡ n → Tied (zeros n) seq 0
+pub tied-start : (seq : List ℕ) (n : ℕ) → length seq ≡ n → Blank seq → Tied (zeros n) seq 0
 unfolding mem
-tied-start seq n e = record { wide = e ∙ sym (zeros-length n); size = sym (ones-zeros n); mark = λ s h. rw (zeros-blank n .all s) }
+tied-start seq n e b = record { wide = e ∙ sym (zeros-length n); size = sym (ones-zeros n); behind = λ i h. b .all i; mark = λ s h. rw (zeros-blank n .all s) }
 
 module _ (n : Netlist) {vis cnt : List ℕ} (v : Visits n vis cnt) where
   same-ops : opsIn vis cnt ≡ visitOrder (netlistIn n)
   same-ops = fun-ext (v .same)
 
-  pub opened : Fits n → (seq : List ℕ) (k : ℕ) → length seq ≡ k → n .inputs + n .gates ≤ k → k ≤ 65536 → Opened vis cnt (zeros k) seq (n .inputs) (n .inputs + n .gates)
-  opened w seq k e h l = record {
+  pub opened : Fits n → (seq : List ℕ) (k : ℕ) → length seq ≡ k → Blank seq → n .inputs + n .gates ≤ k → k ≤ 65536 → Opened vis cnt (zeros k) seq (n .inputs) (n .inputs + n .gates)
+  opened w seq k e b h l = record {
     lower = rw same-ops (visits-lower n w);
-    tied = tied-start seq k e;
+    tied = tied-start seq k e b;
     room = omega (arith, zeros-length k);
     small = omega (arith, zeros-length k);
     inside = omega arith;
@@ -162,6 +162,7 @@ module _ (n : Netlist) {vis cnt : List ℕ} (v : Visits n vis cnt) where
       fun-ext (λ s. ap (λ x. eqb x 0) (u .is s) ∙ waiting-read (n .inputs) (gatesIn (n .ops) (n .counts) (n .gates)) s) in
       record {
         fits = o .fits;
+        behind = o .behind;
         is = o .is
             ∙ ap (λ (ops : ℕ → List ℕ). each (λ g d. visit ops (suc g) g d) (keep (unread left) (upto (n .inputs) (n .inputs + n .gates - n .inputs))) []) same-ops
             ∙ ap (λ (p : ℕ → Bool). each (λ g d. visit (visitOrder (netlistIn n)) (suc g) g d) (keep p (upto (n .inputs) (n .inputs + n .gates - n .inputs))) []) q
@@ -182,9 +183,9 @@ blank-is n e = rw e (zeros-blank n)
 -- ---- the whole plan
 
 -- past the limits there is nothing
-pub plan-none : (n : Netlist) {seq left : List ℕ} → isFlat n ≡ false → left ≡ zeros 576 → Planned n (record { count = 0; seq = seq; left = left })
+pub plan-none : (n : Netlist) {seq left : List ℕ} → isFlat n ≡ false → seq ≡ zeros 576 → left ≡ zeros 576 → Planned n (record { count = 0; seq = seq; left = left })
 unfolding orderIn wantedIn pick
-plan-none n e z = record { fits = omega arith; order = rw e; wanted = λ s. rw (e, z) (zeros-blank 576 .all s) }
+plan-none n e b z = record { fits = omega arith; order = rw e; behind = λ i _. rw b (zeros-blank 576 .all i); wanted = λ s. rw (e, z) (zeros-blank 576 .all s) }
 
 -- the outputs are wanted too
 pub plan-some : (n : Netlist) {seq left left′ : List ℕ} {r : ℕ} → isFlat n ≡ true → length seq ≡ 576 → InOrder n seq r → Readers n left
@@ -193,6 +194,7 @@ unfolding orderIn wantedIn pick
 plan-some n e l o w c = record {
   fits = omega (arith, o .fits, l);
   order = rw e (o .is);
+  behind = o .behind;
   wanted = λ s. rw e (c .is s ∙ ap (λ k. k + times s (from (n .outs) 0 (n .outputs))) (w .is s));
 }
 

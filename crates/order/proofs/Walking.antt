@@ -128,7 +128,7 @@ module _ {ops : ℕ → List ℕ} {left done₀ : List ℕ} {first end : ℕ} {d
 
   pub rooting-end : end ≤ s → Ordered ops left seq first end n
   unfolding orderFrom keep upto each
-  rooting-end h = let p : end - s ≡ 0 = omega arith in record { fits = tied-fits done seq n (w .tied); is = rw p at (w .rest) }
+  rooting-end h = let p : end - s ≡ 0 = omega arith in record { fits = tied-fits done seq n (w .tied); behind = w .tied .behind; is = rw p at (w .rest) }
 
 pub rooted-yes : {ops : ℕ → List ℕ} {left done seq : List ℕ} {n s : ℕ} {done′ seq′ : List ℕ} {r : ℕ} → unread left s ≡ true → Visited ops done seq n s done′ seq′ r
     → Rooted ops left done seq n s done′ seq′ r

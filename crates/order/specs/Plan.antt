@@ -52,4 +52,5 @@ wantedIn n s = pick (isFlat n) (waiting [] (n .inputs) (gatesIn (n .ops) (n .cou
 pub record Planned (n : Netlist) (r : Plan) : Type 0 where
   pub fits : r .count ≤ 576
   pub order : take (r .count) (r .seq) ≡ orderIn n
+  pub behind : (i : ℕ) → r .count ≤ i → getD (r .seq) i 0 ≡ 0
   pub wanted : (s : ℕ) → getD (r .left) s 0 ≡ wantedIn n s

@@ -18,10 +18,11 @@ unfolding pick
 ones [] = 0
 ones (x ∷ xs) = pick (eqb x 1) (suc (ones xs)) (ones xs)
 
--- the marks are those of the first n of the sequence, of which there are as many as marks
+-- the marks are those of the first n of the sequence, of which there are as many as marks; behind them nothing is written
 pub record Tied (done seq : List ℕ) (n : ℕ) : Type 0 where
   pub wide : length seq ≡ length done
   pub size : n ≡ ones done
+  pub behind : (i : ℕ) → n ≤ i → getD seq i 0 ≡ 0
   pub mark : (s : ℕ) → s < length done → eqb (getD done s 0) 1 ≡ mem s (take n seq)
 
 -- a signal's operands are lower than it is
@@ -68,6 +69,7 @@ pub record Opened (vis cnt done seq : List ℕ) (first end : ℕ) : Type 0 where
 
 pub record Ordered (ops : ℕ → List ℕ) (left seq : List ℕ) (first end r : ℕ) : Type 0 where
   pub fits : r ≤ length seq
+  pub behind : (i : ℕ) → r ≤ i → getD seq i 0 ≡ 0
   pub is : take r seq ≡ orderFrom ops left first (end - first) []
 
 -- ---- the whole order
@@ -78,7 +80,8 @@ pub record Steps (first end : ℕ) (d : List ℕ) : Type 0 where
   pub low : (i : ℕ) → i < length d → first ≤ getD d i 0
   pub high : (i : ℕ) → i < length d → getD d i 0 < end
 
--- the first r of a sequence are the rule's order
+-- the first r of a sequence are the rule's order, the others 0
 pub record InOrder (n : Netlist) (seq : List ℕ) (r : ℕ) : Type 0 where
   pub fits : r ≤ length seq
+  pub behind : (i : ℕ) → r ≤ i → getD seq i 0 ≡ 0
   pub is : take r seq ≡ order (netlistIn n)

@@ -16,7 +16,7 @@ mod readers;
 mod visit;
 mod weights;
 
-// The first count of seq are the gates in the order of their execution. left counts each signal's readers, and the outputs.
+// The first count of seq are the gates in the order of their execution, the others 0. left counts each signal's readers, and the outputs.
 pub struct Plan {
     pub count: usize,
     pub seq: [u16; 576],
@@ -44,7 +44,7 @@ fn blank_fours() -> [u16; 2304]
 
 // The gates of a netlist in the order of their execution; the answer is how many they are. left then counts each signal's readers.
 fn in_order(n: Netlist, left: &mut [u16], seq: &mut [u16]) -> usize
-    requires { ⌜ Fits n × (Blank (now left) × ((length (now left) ≡ 576) × (length (now seq) ≡ 576))) ⌝ }
+    requires { ⌜ Fits n × (Blank (now left) × ((length (now left) ≡ 576) × ((length (now seq) ≡ 576) × Blank (now seq)))) ⌝ }
     ensures { λ r. ⌜ InOrder n (now (seq .exit)) r × Readers n (now (left .exit)) ⌝ }
 {
     count_readers(n, left);

@@ -46,7 +46,7 @@ slice-aggregate-visit-roots-3 c = search needs
 
 visit-roots-requires : tie.Need-visit-roots-requires
 visit-roots-requires c κs = let w = c .before .before .before .before .before .before .before .before .before .before .before .before .before .before .before .before .before .before .before .before .before .before .before .pre .0 in
-    rw (c .before .before .before .before .before .before .blank82 .ensures) (opened (c .before .before .before .before .before .before .before .before .before .before .before .before .before .before .before .before .before .before .before .before .before .before .before .args .n) (c .before .before .before .before .before .before .before .before .before .before .weigh-all .ensures) w _ 576 (c .before .before .before .before .before .before .before .before .before .before .before .before .before .before .before .before .before .before .before .before .before .before .before .pre .1 .1 .1) (omega (arith, w .inputsMost, w .gatesMost)) (omega arith))
+    rw (c .before .before .before .before .before .before .blank82 .ensures) (opened (c .before .before .before .before .before .before .before .before .before .before .before .before .before .before .before .before .before .before .before .before .before .before .before .args .n) (c .before .before .before .before .before .before .before .before .before .before .weigh-all .ensures) w _ 576 (c .before .before .before .before .before .before .before .before .before .before .before .before .before .before .before .before .before .before .before .before .before .before .before .pre .1 .1 .1 .0) (c .before .before .before .before .before .before .before .before .before .before .before .before .before .before .before .before .before .before .before .before .before .before .before .pre .1 .1 .1 .1) (omega (arith, w .inputsMost, w .gatesMost)) (omega arith))
 
 same-length : tie.Need-same-length
 same-length c = search needs

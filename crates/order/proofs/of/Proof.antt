@@ -18,7 +18,7 @@ fits-requires : tie.Need-fits-requires
 fits-requires c κs = search needs
 
 returns : tie.Need-returns
-returns c = plan-none _ (sym (c .before .fits2 .ensures) ∙ not-true _ (c .if1 .taken)) (c .before .before .before .blank16 .ensures)
+returns c = plan-none _ (sym (c .before .fits2 .ensures) ∙ not-true _ (c .if1 .taken)) (c .before .before .blank162 .ensures) (c .before .before .before .blank16 .ensures)
 
 slice-aggregate-in-order : tie.Need-slice-aggregate-in-order
 slice-aggregate-in-order c = search needs
@@ -27,7 +27,7 @@ slice-aggregate-in-order-2 : tie.Need-slice-aggregate-in-order-2
 slice-aggregate-in-order-2 c = search needs
 
 in-order-requires : tie.Need-in-order-requires
-in-order-requires c κs = (flat-fits _ (sym (c .before .before .before .fits2 .ensures) ∙ not-false _ (c .before .before .if1 .left)), (blank-is _ (c .before .before .before .before .before .blank16 .ensures), (ap length (c .before .before .before .before .before .blank16 .ensures) ∙ zeros-length 576, ap length (c .before .before .before .before .blank162 .ensures) ∙ zeros-length 576)))
+in-order-requires c κs = (flat-fits _ (sym (c .before .before .before .fits2 .ensures) ∙ not-false _ (c .before .before .if1 .left)), (blank-is _ (c .before .before .before .before .before .blank16 .ensures), (ap length (c .before .before .before .before .before .blank16 .ensures) ∙ zeros-length 576, (ap length (c .before .before .before .before .blank162 .ensures) ∙ zeros-length 576, blank-is _ (c .before .before .before .before .blank162 .ensures)))))
 
 slice-aggregate-count-up : tie.Need-slice-aggregate-count-up
 slice-aggregate-count-up c = search needs
