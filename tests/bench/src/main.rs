@@ -8,8 +8,8 @@ use cases::{cases, deepest_chain, Case};
 use std::hint::black_box;
 use std::time::{Duration, Instant};
 
-/// How long one call is timed for.
-const TIMED: Duration = Duration::from_millis(40);
+/// How long a call of both sides is timed for.
+const TIMED: Duration = Duration::from_millis(200);
 const BATCH: u32 = 10;
 const SIZES: [usize; 5] = [16, 64, 128, 256, 512];
 
@@ -68,8 +68,7 @@ fn print_times() {
         let mut before: Option<(usize, f64)> = None;
         for gates in SIZES {
             let mut cases = cases(gates);
-            let ours = mean(&mut cases, call.library);
-            let second = mean(&mut cases, call.second);
+            let (ours, second) = means(&mut cases, call);
             let growth = before.map_or(String::new(), |(fewer, time)| {
                 format!("{:.1} for {} times the gates", ours / time, gates / fewer)
             });
@@ -90,22 +89,30 @@ fn print_stack() {
     }
 }
 
-/// The mean over the cases of the time of one call, in microseconds.
-fn mean(cases: &mut [Case], call: fn(&mut Case)) -> f64 {
+/// The means over the cases of the time of one call, in microseconds: the library's and the second program's.
+fn means(cases: &mut [Case], call: &Call) -> (f64, f64) {
     let count = cases.len().max(1) as f64;
-    cases.iter_mut().map(|case| time(case, call)).sum::<f64>() / count
+    let times = cases.iter_mut().map(|case| times(case, call));
+    let (ours, second) = times.fold((0.0, 0.0), |sum, time| (sum.0 + time.0, sum.1 + time.1));
+    (ours / count, second / count)
 }
 
-/// The time of one call in microseconds: the best batch, so that other work on the machine counts little.
-fn time(case: &mut Case, call: fn(&mut Case)) -> f64 {
+/// The times of one call of each side: the best of their batches in turn, so that other work on the machine counts little.
+fn times(case: &mut Case, call: &Call) -> (f64, f64) {
     let start = Instant::now();
-    let mut best = Duration::MAX;
+    let (mut ours, mut second) = (f64::MAX, f64::MAX);
     while start.elapsed() < TIMED {
-        let batch = Instant::now();
-        for _ in 0..BATCH {
-            call(case);
-        }
-        best = best.min(batch.elapsed());
+        ours = ours.min(batch(case, call.library));
+        second = second.min(batch(case, call.second));
     }
-    best.as_secs_f64() * 1e6 / f64::from(BATCH)
+    (ours, second)
+}
+
+/// The time of one call in microseconds, over a batch.
+fn batch(case: &mut Case, call: fn(&mut Case)) -> f64 {
+    let start = Instant::now();
+    for _ in 0..BATCH {
+        call(case);
+    }
+    start.elapsed().as_secs_f64() * 1e6 / f64::from(BATCH)
 }
