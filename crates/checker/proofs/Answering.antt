@@ -13,6 +13,7 @@ use Rattle.rules.specs.Refusals.{Res, good, refused, refuse, _>>=_, _>>_, requi
 use Rattle.rules.specs.Netlist as rules
 use Rattle.rules.specs.Sequence.{Sequence, sequenceOf}
 use Rattle.rules.specs.Book.{Cell, firstBook, steps, placed, checked}
+use Rattle.row.proofs.ReadsWell.{reads-well}
 use Rattle.row.specs.declared.Head.{Head}
 use Rattle.row.specs.declared.Reading.{Reading}
 use Rattle.row.specs.Decoded.{instructionsAt, placesAt, sequenceIn, refusalIn}
@@ -35,7 +36,6 @@ use Rattle.book.proofs.Meaning.{first-means}
 use Rattle.checker.specs.Gates.{Indexed}
 use Rattle.checker.specs.Works.{workedOf}
 use Rattle.checker.specs.Judged.{sequenceAt, Agreed, judgedOf}
-use Rattle.checker.proofs.Heads.{sequence-fits}
 use Rattle.checker.proofs.Working.{passed, stopped, worked-means}
 
 -- ---- where the heads agree
@@ -124,8 +124,8 @@ module _ (n : Netlist) (w : Well (netlistIn n)) (text : List ℕ) (s : Reading) 
       pub judge-agreed : h .outputs ≡ n .outputs → Agreed n text h
       unfolding sequenceAt
       judge-agreed z =
-          let f = sequence-fits text (sequenceAt text h) read-is in
-          record { well = w; inputsAgree = same; outputsAgree = z; rowMost = f .rowMost; inputsFew = f .inputsFew }
+          let f = reads-well text (sequenceAt text h) read-is in
+          record { well = w; inputsAgree = same; outputsAgree = z; rowMost = f .rowMost; inputsFew = f .fewer }
 
     pub judge-followed : (r : Res ℕ) → r ≡ checked (netlistIn n) (sequenceAt text h) → r ≡ judgedOf (netlistIn n) text
     judge-followed r z = z ∙ judged-is

@@ -1,6 +1,5 @@
 pub mod Placing
 pub mod Printing
-pub mod Heads
 pub mod Ordering
 pub mod Matching
 pub mod Finding

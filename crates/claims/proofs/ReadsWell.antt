@@ -1,20 +1,19 @@
 -- What a text that reads well is known to say.
 use Prim.Native.Nat.{ℕ, _+_, _<_}
 use mathlib.Core.Path.{_≡_}
-use mathlib.Core.Bool.{not}
 use mathlib.Core.List.{List, [], _∷_}
 use lib.Dec.{ltb}
 use borrow.Author.Tests.{ltb-true}
 use lib.ListN.{getD, length}
-use Rattle.rules.specs.Basics.{within, all, ascending, repeats}
+use Rattle.rules.specs.Basics.{within, all, ascending}
 use Rattle.rules.specs.Form.{Form, two}
 use Rattle.rules.specs.Refusals.{good, orRefuse}
 use Rattle.rules.specs.Lines.{line, nothing, numbers, fields}
-use Rattle.rules.specs.Netlist.{Netlist, due, headOf, gateOf, outputOf, lines, netlistLines, allUsed, twins, wellFormed, netlistOf}
+use Rattle.rules.specs.Netlist.{Netlist, due, headOf, gateOf, outputOf, lines, netlistLines, netlistOf}
 use Rattle.rules.specs.Sequence.{Sequence, SequenceHead, sequenceHeadOf, instructionOf, placeOf, sequenceOf}
 use Rattle.rules.proofs.Answers.{good-same, from-bind, from-then, from-require}
 use Rattle.rules.proofs.Lists.{Each}
-use Rattle.rules.proofs.Reading.{lines-read}
+use Rattle.rules.proofs.Reading.{lines-read, formed}
 use Rattle.claims.proofs.Table.{Below}
 
 -- ---- netlists
@@ -29,14 +28,6 @@ gate-below F own bytes os e =
     from-require _ (ascending ns) 5 _ os e₄ λ _ e₅.
     rw (good-same ns os e₅) at low
 
-wellFormed-good : (M N : Netlist) → wellFormed M ≡ good N → M ≡ N
-unfolding wellFormed
-wellFormed-good M N e =
-    from-require _ (allUsed M) 6 _ N e λ _ e₁.
-    from-require _ (not (twins (M .gates))) 7 _ N e₁ λ _ e₂.
-    from-require _ (not (repeats (M .outputs))) 7 _ N e₂ λ _ e₃.
-    good-same M N e₃
-
 -- every gate reads only signals lower than its own
 pub netlist-ordered : (F : Form) (text : List ℕ) (N : Netlist) → netlistOf F text ≡ good N → Each Below (N .inputs) (N .gates)
 unfolding netlistOf netlistLines
@@ -48,7 +39,7 @@ netlist-ordered F text N e =
     from-bind _ (lines F (gateOf F) (h .gates) (h .inputs) [] (l .rest)) _ p e₅ λ gs e₆ e₇.
     from-bind _ (lines F (λ _. outputOf F h) (h .outputs) 0 [] (gs .tail)) _ p e₇ λ os _ e₈.
     let (new, got, _, each) = lines-read F (gateOf F) Below (gate-below F) (h .gates) (h .inputs) [] (l .rest) gs e₆ in
-    rw (← wellFormed-good (p .got) N e₃, ← good-same _ p e₈, got) each
+    rw (← formed (p .got) N e₃ .same, ← good-same _ p e₈, got) each
 
 -- ---- sequences
 
