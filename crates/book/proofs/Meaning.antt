@@ -2,20 +2,21 @@
 use Prim.Native.Nat.{ℕ, zero, suc, _+_, _-_, _/_, _≤_, min}
 use native.Mathlib.Omega.{arith}
 use mathlib.Core.Path.{_≡_, refl, sym, ap, _∙_}
-use mathlib.Core.List.{List, [], _∷_, _++_, map, map-append}
+use mathlib.Core.List.{List, _∷_, _++_, map, map-append}
 use mathlib.Core.Option.{Option, none, some}
 use lib.Dec.{ltb}
 use lib.ListN.{getD, length, take, drop, set, replicate, length-set, length-map, length-replicate}
 use lib.Seq.{sets, sets-eq, take-append-add}
 use borrow.Author.Tests.{ne-eqb}
 use Rattle.rules.specs.declared.Refusal.{Refusal}
-use Rattle.rules.specs.Basics.{pick, any, setAll, upto}
+use Rattle.rules.specs.Basics.{pick, any, upto}
 use Rattle.rules.specs.Refusals.{Res, good, refused, refuse, _>>=_, orRefuse}
 use Rattle.rules.specs.Netlist.{Netlist}
 use Rattle.rules.specs.Sequence as rules
 use Rattle.rules.specs.Sequence.{Set, Nor}
 use Rattle.rules.specs.Book.{Cell, unknown, ready, holds, firstBook, signals, made, step}
 use Rattle.rules.proofs.Laws.{by-pick}
+use Rattle.rules.proofs.Lists.{length-upto, length-setAll}
 use Rattle.instruction.specs.declared.Instruction.{Instruction}
 use Rattle.instruction.specs.Line.{instructionAt, instructionIn}
 use Rattle.instruction.proofs.Standing.{cells-inside}
@@ -25,11 +26,6 @@ use Rattle.book.specs.Steps.{gateIn, madeWith, stepWith, standingIn, out
 use Rattle.book.proofs.Laws.{cells-of, said-length, said-kept}
 
 -- ---- the first book
-
-upto-length : (s k : ℕ) → length (upto s k) ≡ k
-unfolding upto
-upto-length s zero = refl
-upto-length s (suc k) = ap suc (upto-length (suc s) k)
 
 abbrev zeros : ℕ → List ℕ
 zeros n = replicate n 0
@@ -60,7 +56,7 @@ first-cells n row held low high =
 pub first-means : (row inputs : ℕ) → inputs ≤ row → row ≤ 256 → bookIn (firstOf row inputs) ≡ firstBook inputs row
 unfolding bookIn firstOf said firstBook blankCells
 first-means row inputs low high =
-    let l : length (map holds (upto 0 inputs)) ≡ inputs = length-map (upto 0 inputs) holds ∙ upto-length 0 inputs in
+    let l : length (map holds (upto 0 inputs)) ≡ inputs = length-map (upto 0 inputs) holds ∙ length-upto 0 inputs in
     first-cells 256 row (map holds (upto 0 inputs)) (omega arith) high ∙ ap (λ k. map holds (upto 0 inputs) ++ replicate (row - k) unknown) l
 
 -- ---- one instruction
@@ -76,11 +72,6 @@ step-with N (Nor w os) book = ap (λ (r : Res ℕ). pick (ltb w (N .inputs)) (re
     go ready = refl
     go (holds s) = refl
 
-setAll-length : (cs : List ℕ) (book : List Cell) → length (setAll ready cs book) ≡ length book
-unfolding setAll
-setAll-length [] book = refl
-setAll-length (c ∷ cs) book = setAll-length cs (set book c ready) ∙ length-set book c ready
-
 -- a step refuses with a number above 0, or leaves a book as long
 data Step (n : ℕ) : Res (List Cell) → Type 0 where
   goes : {book : List Cell} → length book ≡ n → Step n (good book)
@@ -92,7 +83,7 @@ stopped n k = stops {r = record { number = suc k }} (λ e. omega (arith, e))
 steps : (inputs : ℕ) (gate : Option ℕ) (i : rules.Instruction) (book : List Cell) → Step (length book) (stepWith inputs gate i book)
 unfolding stepWith madeWith _>>=_ orRefuse
 steps inputs gate (Set cs) book =
-    by-pick (Step (length book)) (any (λ c. ltb c inputs) cs) (λ _. stopped (length book) 12) (λ _. goes (setAll-length cs book))
+    by-pick (Step (length book)) (any (λ c. ltb c inputs) cs) (λ _. stopped (length book) 12) (λ _. goes (length-setAll ready cs book))
 steps inputs gate (Nor w os) book =
     by-pick (Step (length book)) (ltb w inputs) (λ _. stopped (length book) 12) (λ _. made-steps gate (getD book w unknown))
   where

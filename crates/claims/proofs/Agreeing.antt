@@ -17,9 +17,9 @@ use Rattle.rules.specs.Sequence.{Instruction, Set, Nor}
 use Rattle.rules.specs.Cells.{Slot, blank, ready, keeps, cellOf, State, place, setCells}
 use Rattle.rules.specs.Book.{Cell, unknown, ready as set-ready, holds, firstBook, ifHolds, signals, fixed, made, step, steps}
 use Rattle.rules.proofs.Laws.{no-way, bind-good, cons-more, cons-self}
-use Rattle.rules.proofs.Lists.{absent, none-of}
+use Rattle.rules.proofs.Lists.{absent, none-of, length-setAll}
 use Rattle.rules.proofs.Reading.{Well}
-use Rattle.claims.proofs.Slots.{known, setAll-at, length-setAll}
+use Rattle.claims.proofs.Slots.{known, setAll-at}
 use Rattle.claims.proofs.Executing.{Turn}
 use Rattle.claims.proofs.Matching.{gate-found}
 use Rattle.claims.proofs.Keeping.{Kept, in-row, operand-kept, before}

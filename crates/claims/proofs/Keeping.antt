@@ -11,8 +11,8 @@ use Rattle.rules.specs.Basics.{pick, mem, keep, ascending, setAll}
 use Rattle.rules.specs.Netlist.{Netlist, operandsOf}
 use Rattle.rules.specs.Cells.{Slot, blank, ready, spent, keeps, isSpent, those, cellOf, released, State, place, setCells, allSpent}
 use Rattle.rules.proofs.Laws.{no-way}
-use Rattle.rules.proofs.Lists.{absent, keep-mem}
-use Rattle.claims.proofs.Slots.{known, is-spent, those-in, those-asc, cell-at, cells-mem, setAll-at, length-setAll}
+use Rattle.rules.proofs.Lists.{absent, keep-mem, length-setAll}
+use Rattle.claims.proofs.Slots.{known, is-spent, those-in, those-asc, cell-at, cells-mem, setAll-at}
 use Rattle.claims.proofs.Served.{present, present-cases, released-more, released-reader, released-input}
 use Rattle.claims.proofs.Executing.{Turn}
 

@@ -16,8 +16,8 @@ use Rattle.rules.specs.Netlist.{Netlist}
 use Rattle.rules.specs.Cells.{Slot, blank, ready, keeps, isReady, lowest, opening}
 use Rattle.rules.specs.Book.{Cell, unknown, ready as set-ready, holds, firstBook, fixed, step, steps}
 use Rattle.rules.proofs.Laws.{no-way, mem-nil}
-use Rattle.rules.proofs.Lists.{absent, none-of, upto-mem, upto-in, length-upto, asc-upto, Each}
-use Rattle.claims.proofs.Slots.{lowest-found, setAll-at, length-setAll}
+use Rattle.rules.proofs.Lists.{absent, none-of, upto-mem, upto-in, length-upto, asc-upto, Each, length-setAll}
+use Rattle.claims.proofs.Slots.{lowest-found, setAll-at}
 use Rattle.claims.proofs.Served.{present}
 use Rattle.claims.proofs.Keeping.{Kept}
 use Rattle.claims.proofs.Agreeing.{Agrees}

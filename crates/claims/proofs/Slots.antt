@@ -9,7 +9,7 @@ use mathlib.Core.List.{List, [], _∷_, map}
 use mathlib.Core.Option.{some}
 use lib.Dec.{eqb}
 use borrow.Author.Tests.{eqb-true, eq-eqb, ne-eqb}
-use lib.ListN.{getD, length, set, length-set}
+use lib.ListN.{getD, length, set}
 use lib.Seq.{getD-set-same, getD-set-other, lt-length-set}
 use Rattle.rules.specs.Basics.{pick, mem, ascending, setAll}
 use Rattle.rules.specs.Cells.{Slot, blank, ready, spent, keeps, isReady, isSpent, isKeeping, those, lowest, orZero, cellOf}
@@ -118,11 +118,6 @@ cells-mem l (o ∷ os) x e =
     (λ q. (o, cons-self o os, q)) (λ q. let (p, u, v) = cells-mem l os x q in (p, cons-more p o os u, v))
 
 -- ---- many cells set
-
-pub length-setAll : {A : Type 0} (v : A) (cs : List ℕ) (b : List A) → length (setAll v cs b) ≡ length b
-unfolding setAll
-length-setAll v [] b = refl
-length-setAll v (c ∷ cs) b = length-setAll v cs (set b c v) ∙ length-set b c v
 
 pub setAll-at : {A : Type 0} (v : A) (cs : List ℕ) (b : List A) (x : ℕ) (d : A) → x < length b → getD (setAll v cs b) x d ≡ pick (mem x cs) v (getD b x d)
 unfolding setAll mem pick

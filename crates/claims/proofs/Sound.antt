@@ -18,17 +18,12 @@ use Rattle.rules.specs.Values.{nor, table, values}
 use Rattle.rules.specs.Device.{run}
 use Rattle.rules.specs.Book.{Cell, unknown, ready, holds, firstBook, gateWith, steps, isHolding, placed, checked}
 use Rattle.rules.proofs.Laws.{no-way, bind-good, require-good, and-true, gateWith-spec}
-use Rattle.rules.proofs.Lists.{Each}
+use Rattle.rules.proofs.Lists.{Each, length-upto}
 use Rattle.claims.proofs.Table.{Below, table-keeps, values-spec}
 use Rattle.claims.proofs.Fits.{Fits, steps-fit}
 use Rattle.claims.proofs.Stays.{run-stays, steps-spare}
 
 -- ---- the first book
-
-length-upto : (a n : ℕ) → length (upto a n) ≡ n
-unfolding upto
-length-upto a zero = refl
-length-upto a (suc n) = ap suc (length-upto (suc a) n)
 
 book-length : (n row : ℕ) → n ≤ row → length (firstBook n row) ≡ row
 unfolding firstBook

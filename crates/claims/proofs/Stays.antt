@@ -15,6 +15,7 @@ use Rattle.rules.specs.Sequence.{Instruction, Set, Nor}
 use Rattle.rules.specs.Device.{execute, run, touches}
 use Rattle.rules.specs.Book.{Cell, unknown, ready, holds, signals, fixed, made, step, steps}
 use Rattle.rules.proofs.Laws.{no-way, bind-good, or-false}
+use Rattle.rules.proofs.Lists.{length-setAll}
 
 -- ---- a budget that lets the sequence end
 
@@ -27,14 +28,9 @@ run-ends (suc b) (i ∷ is) r h = run-ends b is (execute i r) (omega arith)
 
 -- ---- the row's length
 
-setAll-length : {A : Type 0} (v : A) (cs : List ℕ) (l : List A) → length (setAll v cs l) ≡ length l
-unfolding setAll
-setAll-length v [] l = refl
-setAll-length v (c ∷ cs) l = setAll-length v cs (set l c v) ∙ length-set l c v
-
 execute-length : (i : Instruction) (r : List ℕ) → length (execute i r) ≡ length r
 unfolding execute
-execute-length (Set cs) r = setAll-length 1 cs r
+execute-length (Set cs) r = length-setAll 1 cs r
 execute-length (Nor w os) r = length-set r w _
 
 pub run-length : (b : ℕ) (is : List Instruction) (r : List ℕ) → length (run b is r) ≡ length r

@@ -6,7 +6,7 @@ use mathlib.Core.Bool.{true, false}
 use mathlib.Core.List.{List, [], _∷_, _++_, map}
 use lib.Dec.{eqb, leb}
 use lib.ListN.{getD, length, take, drop, length-replicate, length-map}
-use lib.Seq.{sets, sets-eq, length-sets, take-append-seam, getD-take}
+use lib.Seq.{sets, length-sets, take-append-seam, getD-take}
 use borrow.Author.Tests.{ne-eqb, lt-ltb, le-ltb, eqb-true}
 use Rattle.rules.specs.declared.Answer.the-variants.{Given, Refused}
 use Rattle.rules.specs.Basics.{pick, mem, all}
@@ -16,6 +16,7 @@ use Rattle.rules.specs.Netlist.{netlistOf}
 use Rattle.rules.specs.Values.{nor, table, values, outputValues, areBits}
 use Rattle.rules.specs.Calls.{outcomeOf, delivered, evaluated, evaluateOutcome}
 use Rattle.rules.proofs.Laws.{and-true, cons-self, cons-more}
+use Rattle.rules.proofs.Lists.{sets-front}
 use Rattle.netlist.specs.declared.Netlist.{Netlist}
 use Rattle.netlist.specs.declared.Reading.{Reading}
 use Rattle.netlist.specs.Flat.{from, gatesIn, netlistIn, readingOf}
@@ -25,10 +26,6 @@ use Rattle.netlist.proofs.FlatWell.{read-good, read-flat}
 use Rattle.evaluator.specs.Values.{noValues, valuesAt}
 
 -- ---- lists
-
--- what is written in front, and the rest
-front : (vs l : List ℕ) → length vs ≤ length l → sets l 0 vs ≡ vs ++ drop (length vs) l
-front vs l h = let e : 0 + length vs ≡ length vs = omega arith in rw e at (sets-eq vs l 0 (omega arith))
 
 map-agree : (f g : ℕ → ℕ) (l : List ℕ) → ((x : ℕ) → mem x l ≡ true → f x ≡ g x) → map f l ≡ map g l
 map-agree f g [] h = refl
@@ -90,7 +87,7 @@ module _ (text inputs out : List ℕ) (r : Reading) (e : readingOf r ≡ netlist
       inputs-first : take (n .inputs) (sets noValues 0 inputs) ≡ inputs
       inputs-first =
           let h : length inputs ≤ length noValues = omega (arith, bits-long, none-long, well .inputsMost) in
-          rw (front inputs noValues h, ← bits-long) (take-append-seam inputs (drop (length inputs) noValues))
+          rw (sets-front inputs noValues h, ← bits-long) (take-append-seam inputs (drop (length inputs) noValues))
 
       module _ (v₀ v₁ v₂ after : List ℕ) (e₀ : v₀ ≡ noValues) (e₁ : v₁ ≡ sets v₀ 0 inputs)
           (e₂ : take (n .inputs + n .gates) v₂ ≡ table nor (take (n .inputs) v₁) (gatesIn (n .ops) (n .counts) (n .gates)))
@@ -112,5 +109,5 @@ module _ (text inputs out : List ℕ) (r : Reading) (e : readingOf r ≡ netlist
         handed h =
             let l : length (outputValues (netlistIn n) inputs) ≤ length out = omega (arith, outputs-long) in
             let a : after ≡ outputValues (netlistIn n) inputs ++ drop (n .outputs) out =
-            e₃ ∙ rw outputs-are (front (outputValues (netlistIn n) inputs) out l ∙ rw outputs-long) in
+            e₃ ∙ rw outputs-are (sets-front (outputValues (netlistIn n) inputs) out l ∙ rw outputs-long) in
             rw a (given h)

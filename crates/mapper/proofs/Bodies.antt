@@ -15,6 +15,7 @@ use Rattle.rules.specs.Sequence.{placeText, texts}
 use Rattle.rules.specs.Order.{order}
 use Rattle.rules.specs.Cells.{State, cellOf}
 use Rattle.rules.specs.Mapping.{sequenceFrom, mappedBy, mapped}
+use Rattle.rules.proofs.Lists.{length-upto}
 use Rattle.netlist.specs.declared.Netlist.{Netlist}
 use Rattle.netlist.specs.Flat.{from, netlistIn}
 use Rattle.netlist.specs.Well.{WellFlat}
@@ -32,7 +33,6 @@ use Rattle.mapper.specs.Wanted.{Wanted}
 use Rattle.mapper.specs.Run.{opened, ran, Mapped, RunOf, Runnable}
 use Rattle.mapper.specs.Whole.{bodyText, Bodied}
 use Rattle.mapper.proofs.Writing.{written-join, place-length}
-use Rattle.mapper.proofs.Opens.{upto-length}
 
 places-long : (cs : List ℕ) → length (texts (placeText form01) cs) ≡ 5 * length cs
 unfolding texts
@@ -57,10 +57,10 @@ seated inputs h cell e s = rw e (go (decLt s inputs))
     go : Dec (s < inputs) → getD (sets (zeros 576) 0 (upto 0 inputs)) s 0 ≡ getD (upto 0 inputs) s 0
     go (yes l) =
         let z : 0 + s ≡ s = omega arith in
-        rw z at (getD-sets-in (upto 0 inputs) (zeros 576) 0 s (omega (arith, upto-length 0 inputs, zeros-length 576)) (omega (arith, upto-length 0 inputs)))
+        rw z at (getD-sets-in (upto 0 inputs) (zeros 576) 0 s (omega (arith, length-upto 0 inputs, zeros-length 576)) (omega (arith, length-upto 0 inputs)))
     go (no l) =
-        getD-sets-other (upto 0 inputs) (zeros 576) 0 s (λ a b. l (omega (arith, upto-length 0 inputs))) ∙ zeros-blank 576 .all s
-        ∙ sym (List·getD-eq-default (upto 0 inputs) 0 (omega (arith, l, upto-length 0 inputs)))
+        getD-sets-other (upto 0 inputs) (zeros 576) 0 s (λ a b. l (omega (arith, length-upto 0 inputs))) ∙ zeros-blank 576 .all s
+        ∙ sym (List·getD-eq-default (upto 0 inputs) 0 (omega (arith, l, length-upto 0 inputs)))
 
 module _ (n : Netlist) (w : WellFlat n) (row : ℕ) (room : n .inputs < row) {plan : Plan} (p : Planned n plan) where
   pub plan-runnable : row ≤ 256 → length (plan .seq) ≡ 576 → {cell : List ℕ} → cell ≡ sets (zeros 576) 0 (upto 0 (n .inputs)) → length cell ≡ 576

@@ -6,7 +6,7 @@ use mathlib.Core.Path.{_≡_, refl, sym, ap, _∙_, subst}
 use mathlib.Core.List.{List, _++_}
 use borrow.Author.Tests.{lt-ltb, le-ltb, le-leb, lt-leb, ne-eqb}
 use lib.ListN.{length, take, drop, length-append}
-use lib.Seq.{sets, sets-eq, take-at}
+use lib.Seq.{sets, take-at}
 use Rattle.rules.specs.declared.Answer.the-variants.{Given, Refused}
 use Rattle.rules.specs.Basics.{pick}
 use Rattle.rules.specs.Form.{form01}
@@ -16,6 +16,7 @@ use Rattle.rules.specs.Sequence.{Sequence, headText, sequenceText}
 use Rattle.rules.specs.Netlist.{netlistOf}
 use Rattle.rules.specs.Mapping.{mapped, mappedText}
 use Rattle.rules.specs.Calls.{outcomeOf, delivered, mapOutcome}
+use Rattle.rules.proofs.Lists.{sets-front}
 use Rattle.netlist.specs.declared.Netlist.{Netlist}
 use Rattle.netlist.specs.declared.Reading.{Reading}
 use Rattle.netlist.specs.Flat.{netlistIn, readingOf}
@@ -53,9 +54,6 @@ unfolding textIn _>>=_
 text-some n row S e = rw e
 
 -- ---- a text at the front of a list
-
-sets-front : (t l : List ℕ) → length t ≤ length l → sets l 0 t ≡ t ++ drop (length t) l
-sets-front t l h = let e : 0 + length t ≡ length t = omega arith in rw e at (sets-eq t l 0 (omega arith))
 
 front-back : (t l m : List ℕ) (k : ℕ) → m ≡ sets l 0 t → k ≡ length t → k ≤ length l → take k m ≡ t
 front-back t l m k e f h = rw (e, sets-front t l (omega arith)) (take-at t (drop (length t) l) k (sym f))

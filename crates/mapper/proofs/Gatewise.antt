@@ -15,6 +15,7 @@ use Rattle.rules.specs.Sequence.{Instruction, Nor}
 use Rattle.rules.specs.Netlist.{operandsOf}
 use Rattle.rules.specs.Cells.{blank, ready, spent, keeps, cellOf, State, released, place}
 use Rattle.rules.proofs.Laws.{no-way, snoc-self, snoc-more, or-right}
+use Rattle.rules.proofs.Lists.{length-setAll}
 use Rattle.netlist.specs.declared.Netlist.{Netlist}
 use Rattle.netlist.specs.Flat.{gateIn, netlistIn}
 use Rattle.netlist.specs.Well.{WellFlat}
@@ -25,7 +26,7 @@ use Rattle.mapper.specs.Wanted.{Wanted}
 use Rattle.mapper.specs.Run.{Executable, Executed, freed}
 use Rattle.netlist.proofs.Arrays.{length-from, getD-gates}
 use Rattle.mapper.proofs.Wants.{wanted-released, still-counted, wanted-after}
-use Rattle.mapper.proofs.Slots.{placed-codes, length-setAll}
+use Rattle.mapper.proofs.Slots.{placed-codes}
 use Rattle.mapper.proofs.Keeping.{kept-cells, kept-after, setAll-keeps, spent-not, keeps-inj}
 use Rattle.mapper.proofs.Bounds.{Bounded, bounded-place}
 use Rattle.mapper.proofs.Mirror.{Since, since-at, since-line, Mirrors, row-length}

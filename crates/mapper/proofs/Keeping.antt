@@ -14,7 +14,7 @@ use lib.Seq.{getD-set-same, getD-set-other}
 use Rattle.rules.specs.Basics.{pick, mem, setAll}
 use Rattle.rules.specs.Cells.{Slot, blank, ready, spent, keeps, isKeeping, lowest, orZero, cellOf}
 use Rattle.rules.proofs.Laws.{no-way, mem-nil, cons-cases, cons-self, cons-more}
-use Rattle.mapper.proofs.Slots.{length-setAll}
+use Rattle.rules.proofs.Lists.{length-setAll}
 
 pub record Kept (cell : List ℕ) (l : List Slot) : Type 0 where
   pub found : (c s : ℕ) → getD l c blank ≡ keeps s → getD cell s 0 ≡ c

@@ -10,6 +10,7 @@ use lib.Seq.{getD-append-add, take-append-add}
 use Rattle.rules.specs.Basics.{pick, upto}
 use Rattle.rules.specs.Cells.{Slot, blank, ready, spent, keeps, opening}
 use Rattle.rules.proofs.Laws.{no-way}
+use Rattle.rules.proofs.Lists.{length-upto}
 use Rattle.netlist.specs.declared.Netlist.{Netlist}
 use Rattle.netlist.specs.Flat.{netlistIn}
 use Rattle.mapper.specs.Held.{codeOf, cellsOf, spentIn, renewed, firstHeld, firstCells}
@@ -45,11 +46,6 @@ upto-at a zero i h = absurd (omega arith)
 upto-at a (suc k) zero h = omega arith
 upto-at a (suc k) (suc i) h = upto-at (suc a) k i (omega arith) ∙ omega arith
 
-pub upto-length : (a k : ℕ) → length (upto a k) ≡ k
-unfolding upto
-upto-length a zero = refl
-upto-length a (suc k) = ap suc (upto-length (suc a) k)
-
 -- the inputs' slots, then ready ones
 abbrev pub openSlots : ℕ → ℕ → List Slot
 openSlots inputs k = map keeps (upto 0 inputs) ++ (replicate k ready ++ [])
@@ -65,11 +61,11 @@ none-ready (suc k) (suc c) s e = none-ready k c s e
 
 module _ (inputs k : ℕ) where
   input-slots : length (map keeps (upto 0 inputs)) ≡ inputs
-  input-slots = length-map (upto 0 inputs) keeps ∙ upto-length 0 inputs
+  input-slots = length-map (upto 0 inputs) keeps ∙ length-upto 0 inputs
 
   pub open-input : (c : ℕ) → c < inputs → getD (openSlots inputs k) c blank ≡ keeps c
   open-input c h =
-      List·getD-append (map keeps (upto 0 inputs)) (replicate k ready ++ []) blank c (omega (arith, input-slots)) ∙ go (upto 0 inputs) c (omega (arith, upto-length 0 inputs))
+      List·getD-append (map keeps (upto 0 inputs)) (replicate k ready ++ []) blank c (omega (arith, input-slots)) ∙ go (upto 0 inputs) c (omega (arith, length-upto 0 inputs))
       ∙ ap keeps (upto-at 0 inputs c h ∙ omega arith)
     where
       go : (l : List ℕ) (i : ℕ) → i < length l → getD (map keeps l) i blank ≡ keeps (getD l i 0)
@@ -97,7 +93,7 @@ module _ (inputs k : ℕ) where
         where
           go : Dec (s < inputs) → getD cell s 0 ≡ 0
           go (yes l) = absurd (n s (open-input s l))
-          go (no l) = h s ∙ List·getD-eq-default (upto 0 inputs) 0 (omega (arith, upto-length 0 inputs, l))
+          go (no l) = h s ∙ List·getD-eq-default (upto 0 inputs) 0 (omega (arith, length-upto 0 inputs, l))
 
 -- ---- the state before the first line, and its set line
 

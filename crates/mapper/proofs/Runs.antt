@@ -18,6 +18,7 @@ use Rattle.rules.specs.Sequence.{Instruction, Set, instructionText, texts}
 use Rattle.rules.specs.Cells.{ready, keeps, isSpent, those, State, place, executeGate, executeGates, allSpent, opening}
 use Rattle.rules.specs.Netlist as rules
 use Rattle.rules.proofs.Laws.{or-left}
+use Rattle.rules.proofs.Lists.{length-upto}
 use Rattle.netlist.specs.declared.Netlist.{Netlist}
 use Rattle.netlist.specs.Flat.{netlistIn}
 use Rattle.mapper.specs.declared.cells.Cells.{Cells}
@@ -26,7 +27,7 @@ use Rattle.mapper.specs.Held.{firstCells, Renewed, Roomed, Fine, Short}
 use Rattle.mapper.specs.Run.{codeText, opened, ran, Executable, Executed, Mapped, Runnable}
 use Rattle.mapper.proofs.Writing.{set-text, written-join}
 use Rattle.mapper.proofs.Keeping.{kept-cell}
-use Rattle.mapper.proofs.Opens.{opened-slots, open-keeps, kept-open, upto-length, first-spent, first-renewed}
+use Rattle.mapper.proofs.Opens.{opened-slots, open-keeps, kept-open, first-spent, first-renewed}
 use Rattle.mapper.proofs.Bounds.{Bounded, written-length}
 use Rattle.mapper.proofs.Mirror.{Since, since-at, Mirrors, mirror-fine}
 use Rattle.mapper.proofs.Rooms.{Roomy, room-found, room-none}
@@ -107,7 +108,7 @@ module _ {n : Netlist} {row m : ℕ} {seq left cell : List ℕ} (p : Runnable n 
           lines = rw (open-code n row) (d .lines);
         };
         bounded = record {
-          short = omega (arith, ap length (open-text n row), written-length (0x12 ∷ upto (n .inputs) (row - n .inputs)), upto-length (n .inputs) (row - n .inputs), p .size, open-spent n row);
+          short = omega (arith, ap length (open-text n row), written-length (0x12 ∷ upto (n .inputs) (row - n .inputs)), length-upto (n .inputs) (row - n .inputs), p .size, open-spent n row);
           few = rw (open-code n row) (omega arith);
         };
         done = open-done n row;

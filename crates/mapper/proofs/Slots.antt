@@ -9,7 +9,7 @@ use mathlib.Core.List.{List, [], _∷_, _++_, map, append-assoc}
 use mathlib.Core.Option.{none, some}
 use lib.Dec.{eqb}
 use borrow.Author.Tests.{eq-eqb, ne-eqb}
-use lib.ListN.{getD, length, take, set, length-append, length-set}
+use lib.ListN.{getD, length, take, set, length-append}
 use lib.Seq.{set-append-seam}
 use Rattle.rules.specs.Basics.{pick, setAll}
 use Rattle.rules.specs.Cells.{Slot, blank, ready, spent, keeps, isReady, isSpent, those, lowest, allSpent}
@@ -125,8 +125,3 @@ unfolding codeOf
 placed-codes n held cs c g l e =
     take-setAll n 1 cs (set held c 2) ∙ ap (setAll 1 cs) (take-set n held c 2 ∙ ap (λ t. set t c 2) e)
     ∙ sym (map-setAll spent cs (set l c (keeps g)) ∙ ap (setAll 1 cs) (map-set l c (keeps g)))
-
-pub length-setAll : {A : Type 0} (v : A) (cs : List ℕ) (l : List A) → length (setAll v cs l) ≡ length l
-unfolding setAll
-length-setAll v [] l = refl
-length-setAll v (c ∷ cs) l = length-setAll v cs (set l c v) ∙ length-set l c v

@@ -9,7 +9,8 @@ use lib.Dec.{leb, ltb}
 use borrow.Author.Tests.{leb-true, le-leb, lt-leb, ltb-true, lt-ltb}
 use lib.ListN.{getD}
 use Rattle.rules.specs.Basics.{all, mem}
-use Rattle.rules.proofs.Laws.{and-true, mem-nil, cons-cases, cons-self, cons-more}
+use Rattle.rules.proofs.Laws.{and-true, mem-nil, cons-cases}
+use Rattle.rules.proofs.Lists.{all-of}
 use Rattle.netlist.specs.declared.Netlist.{Netlist}
 use Rattle.netlist.specs.Flat.{from, gateIn}
 use Rattle.netlist.specs.Well.{WellFlat}
@@ -22,11 +23,6 @@ pub all-member : (p : ℕ → Bool) (l : List ℕ) (o : ℕ) → all p l ≡ tru
 unfolding all
 all-member p [] o e m = absurd (mem-nil o m)
 all-member p (a ∷ l) o e m = let r = and-true (p a) (all p l) e in cons-cases (p o ≡ true) o a l m (λ q. rw q (r .0)) (all-member p l o (r .1))
-
-pub all-of : (p : ℕ → Bool) (l : List ℕ) → ((o : ℕ) → mem o l ≡ true → p o ≡ true) → all p l ≡ true
-unfolding all
-all-of p [] h = refl
-all-of p (a ∷ l) h = rw (h a (cons-self a l)) (all-of p l (λ o m. h o (cons-more o a l m)))
 
 -- ---- one gate
 

@@ -4,9 +4,9 @@ use native.Mathlib.Omega.{arith}
 use mathlib.Core.Path.{_≡_, refl, subst}
 use mathlib.Core.Bool.{Bool, true, false, not}
 use mathlib.Core.List.{List, [], _∷_, _++_}
-use lib.Dec.{eqb, ltb, leb}
+use lib.Dec.{eqb, ltb}
 use lib.ListN.{getD, length, length-append}
-use borrow.Author.Tests.{leb-true, ltb-true, not-true}
+use borrow.Author.Tests.{ltb-true, not-true}
 use Rattle.rules.specs.Basics.{pick, within, all, repeats, ascending}
 use Rattle.rules.specs.Form.{form01, one, two}
 use Rattle.rules.specs.Refusals.{Res, good, refuse, _>>=_, orRefuse}
@@ -14,14 +14,10 @@ use Rattle.rules.specs.Lines.{line, nothing, fields}
 use Rattle.rules.specs.Netlist.{due, Part, lines}
 use Rattle.rules.specs.Sequence.{Instruction, norFrom, Sequence, SequenceHead, sequenceHeadOf, setOf, norOf, instructionOf, placeOf, sequenceOf}
 use Rattle.rules.proofs.Laws.{no-way, and-true, bind-good, then-good, require-good}
+use Rattle.rules.proofs.Lists.{within-true}
+use Rattle.rules.proofs.Answers.{good-same}
 use Rattle.lines.proofs.Meaning.{numbers-one}
 use Rattle.row.specs.Well.{Fine, AllFine, Well}
-
-between : (least most x : ℕ) → within least most x ≡ true → (least ≤ x) × (x ≤ most)
-between least most x e = let h = and-true (leb least x) (leb x most) e in (leb-true least x (h .0), leb-true x most (h .1))
-
-same : {A : Type 0} {x y : A} → good x ≡ good y → x ≡ y
-same e = cc
 
 -- ---- the rules for one line
 
@@ -46,17 +42,17 @@ head-numbers bytes h e =
     let (c, e₅) = require-good (within 1 64 (getD ns 2 0)) 3 _ h e₄ in
     let (d, e₆) = require-good (within 1 1024 (getD ns 3 0)) 3 _ h e₅ in
     let (f, e₇) = require-good (ltb (getD ns 1 0) (getD ns 0 0 + 1)) 3 _ h e₆ in
-    subst Numbers (same e₇)
+    subst Numbers (good-same _ _ e₇)
     (record {
-      rowLeast = between 2 256 (getD ns 0 0 + 1) a .0;
-      rowMost = between 2 256 (getD ns 0 0 + 1) a .1;
-      inputsLeast = between 1 64 (getD ns 1 0) b .0;
-      inputsMost = between 1 64 (getD ns 1 0) b .1;
+      rowLeast = within-true 2 256 (getD ns 0 0 + 1) a .0;
+      rowMost = within-true 2 256 (getD ns 0 0 + 1) a .1;
+      inputsLeast = within-true 1 64 (getD ns 1 0) b .0;
+      inputsMost = within-true 1 64 (getD ns 1 0) b .1;
       fewer = ltb-true (getD ns 1 0) (getD ns 0 0 + 1) f;
-      outputsLeast = between 1 64 (getD ns 2 0) c .0;
-      outputsMost = between 1 64 (getD ns 2 0) c .1;
-      instructionsLeast = between 1 1024 (getD ns 3 0) d .0;
-      instructionsMost = between 1 1024 (getD ns 3 0) d .1;
+      outputsLeast = within-true 1 64 (getD ns 2 0) c .0;
+      outputsMost = within-true 1 64 (getD ns 2 0) c .1;
+      instructionsLeast = within-true 1 1024 (getD ns 3 0) d .0;
+      instructionsMost = within-true 1 1024 (getD ns 3 0) d .1;
     })
 
 set-fine : (row : ℕ) (l : List ℕ) (a : Instruction) → setOf form01 row l ≡ good a → Fine row a
@@ -65,7 +61,7 @@ set-fine row l a e =
     let (b, e₁) = require-good (within 1 256 (length l)) 2 _ a (rw (numbers-one l) at e) in
     let (c, e₂) = require-good (ascending l) 5 _ a e₁ in
     let (d, e₃) = require-good (all (λ c. ltb c row) l) 12 _ a e₂ in
-    subst (Fine row) (same e₃) (between 1 256 (length l) b .0, c, d)
+    subst (Fine row) (good-same _ _ e₃) (within-true 1 256 (length l) b .0, c, d)
 
 nor-fine : (row : ℕ) (l : List ℕ) (a : Instruction) → norOf form01 row l ≡ good a → Fine row a
 unfolding norOf form01 orRefuse _>>=_ Fine norFrom
@@ -73,8 +69,8 @@ nor-fine row l a e =
     let (b, e₁) = require-good (within 2 5 (length l)) 2 _ a (rw (numbers-one l) at e) in
     let (c, e₂) = require-good (not (repeats l)) 5 _ a e₁ in
     let (d, e₃) = require-good (all (λ c. ltb c row) l) 12 _ a e₂ in
-    let h = between 2 5 (length l) b in
-    subst (Fine row) (same e₃) (go l (h .0) (h .1) (not-true (repeats l) c) d)
+    let h = within-true 2 5 (length l) b in
+    subst (Fine row) (good-same _ _ e₃) (go l (h .0) (h .1) (not-true (repeats l) c) d)
   where
     go : (m : List ℕ) → 2 ≤ length m → length m ≤ 5 → repeats m ≡ false → all (λ c. ltb c row) m ≡ true → Fine row (norFrom m)
     go [] x y c d = absurd (omega arith)
@@ -96,7 +92,7 @@ place-below row bytes c e =
     let (l, _, e₁) = bind-good (due 20 bytes) _ c e in
     let (ns, _, e₂) = bind-good (orRefuse 2 (fields (one ∷ []) l)) _ c e₁ in
     let (low, e₃) = require-good (ltb (getD ns 0 0) row) 12 _ c e₂ in
-    subst (λ x. ltb x row ≡ true) (same e₃) low
+    subst (λ x. ltb x row ≡ true) (good-same _ _ e₃) low
 
 -- ---- line after line: so many were read, and what the rule says of each holds of all behind those so far
 
@@ -136,7 +132,7 @@ reads-well text S e =
     lines-keep (instructionOf form01 (h .row)) (AllFine (h .row)) (λ b l a q f. fine-snoc (h .row) l a f (instruction-fine (h .row) b a q)) (h .instructions) 0 [] (l .rest) is e₄ tt in
     let (below, count) =
     lines-keep (placeOf form01 (h .row)) (λ l. all (λ c. ltb c (h .row)) l ≡ true) (λ b l a q f. below-snoc (h .row) l a f (place-below (h .row) b a q)) (h .outputs) 0 [] (is .tail) ps e₆ refl in
-    subst Well (same e₈)
+    subst Well (good-same _ _ e₈)
     (record {
       rowLeast = n .rowLeast;
       rowMost = n .rowMost;

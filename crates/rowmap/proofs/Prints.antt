@@ -1,12 +1,11 @@
 -- What stands in the buffer is what the mapping program prints.
 use Prim.Native.Nat.{ℕ, _+_, _<_, _≤_}
-use native.Mathlib.Omega.{arith}
 use mathlib.Core.Path.{_≡_, refl, ap, _∙_}
 use mathlib.Core.Bool.{Bool, true, false}
 use mathlib.Core.List.{List, _++_}
 use lib.Dec.{ltb}
 use lib.ListN.{length, drop}
-use lib.Seq.{sets, sets-eq}
+use lib.Seq.{sets}
 use borrow.Author.Tests.{lt-ltb, le-ltb, ltb-false}
 use Rattle.rules.specs.declared.Refusal.{Refusal}
 use Rattle.rules.specs.declared.Answer.{Answer}
@@ -18,6 +17,7 @@ use Rattle.rules.specs.Mapping.{mappedText}
 use Rattle.rules.specs.Programs.{refusalLine, printed, held, mappingAnswer, mappingProgram}
 use Rattle.rules.specs.Calls.{Outcome, delivered, mapOutcome, rowmapOutput}
 use Rattle.rules.proofs.Laws.{no-way}
+use Rattle.rules.proofs.Lists.{sets-front}
 use Rattle.rowmap.specs.declared.job.Job.{Job}
 use Rattle.rowmap.specs.Job.{jobAt, refusedBy}
 use Rattle.rowmap.specs.Printed.{printedIn, rowmapIn}
@@ -50,8 +50,7 @@ module _ (out out′ : List ℕ) where
           let m : n ≡ length t = cc in
           let l : out′ ≡ t ++ drop (length t) out = ap (λ (o : Outcome). o .lent) f in
           let h = ltb-false (length out) (length t) q in
-          let s : 0 + length t ≡ length t = omega arith in
-          (m, rw (sets-eq t out 0 (omega arith), s) l)
+          (m, rw (sets-front t out h) l)
 
   delivered-refused : (R : Res (List ℕ)) (r : Refusal) → _≡_ {A = Outcome} (record { answer = refused r; lent = out′ }) (delivered R out)
       → (out′ ≡ out) × (printedIn (length out) R ≡ refusalLine r)

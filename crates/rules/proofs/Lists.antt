@@ -1,15 +1,16 @@
--- Laws of kept, ascending and counted lists.
+-- Laws of kept, ascending, counted and written lists.
 -- Assumes nothing.
 use Prim.Native.Nat.{ℕ, zero, suc, _+_, _-_, _<_, _≤_}
 use native.Mathlib.Omega.{arith}
 use native.Mathlib.Decide.{ℕ-discrete}
-use mathlib.Core.Path.{_≡_, refl, sym, ap}
+use mathlib.Core.Path.{_≡_, refl, sym, ap, _∙_}
 use mathlib.Core.Bool.{Bool, true, false, _||_}
 use mathlib.Core.List.{List, [], _∷_, _++_}
 use lib.Dec.{ltb, leb}
 use borrow.Author.Tests.{ltb-true, lt-ltb, leb-true, le-leb}
-use lib.ListN.{getD, length}
-use Rattle.rules.specs.Basics.{pick, within, all, any, keep, mem, ascending, upto}
+use lib.ListN.{getD, length, drop, set, length-set}
+use lib.Seq.{sets, sets-eq}
+use Rattle.rules.specs.Basics.{pick, within, all, any, keep, mem, ascending, upto, setAll}
 use Rattle.rules.proofs.Laws.{no-way, by-pick, and-true, or-false, or-none, cons-cases, cons-more, cons-self, mem-nil}
 
 pub absent : (t : Bool) → (t ≡ true → ⊥) → t ≡ false
@@ -108,6 +109,17 @@ pub length-upto : (a k : ℕ) → length (upto a k) ≡ k
 unfolding upto
 length-upto a zero = refl
 length-upto a (suc k) = ap suc (length-upto (suc a) k)
+
+-- ---- written entries
+
+pub length-setAll : {A : Type 0} (v : A) (cs : List ℕ) (l : List A) → length (setAll v cs l) ≡ length l
+unfolding setAll
+length-setAll v [] l = refl
+length-setAll v (c ∷ cs) l = length-setAll v cs (set l c v) ∙ length-set l c v
+
+-- what is written in front, and the rest
+pub sets-front : (t l : List ℕ) → length t ≤ length l → sets l 0 t ≡ t ++ drop (length t) l
+sets-front t l h = let e : 0 + length t ≡ length t = omega arith in rw e at (sets-eq t l 0 (omega arith))
 
 -- ---- ascending
 
