@@ -1,3 +1,4 @@
+pub mod FirstBook
 pub mod Table
 pub mod Fits
 pub mod Stays

@@ -9,7 +9,7 @@ use mathlib.Core.List.{List, [], _++_, map}
 use mathlib.Core.Option.{some}
 use lib.Dec.{ltb}
 use borrow.Author.Tests.{ltb-true, le-ltb}
-use lib.ListN.{getD, length, set, replicate, length-append, length-map, length-replicate}
+use lib.ListN.{getD, set, replicate, length-append, length-map, length-replicate}
 use Rattle.rules.specs.Basics.{pick, mem, upto, setAll}
 use Rattle.rules.specs.Refusals.{_>>=_}
 use Rattle.rules.specs.Netlist.{Netlist}
@@ -17,6 +17,7 @@ use Rattle.rules.specs.Cells.{Slot, blank, ready, keeps, isReady, lowest, openi
 use Rattle.rules.specs.Book.{Cell, unknown, ready as set-ready, holds, firstBook, fixed, step, steps}
 use Rattle.rules.proofs.Laws.{no-way, mem-nil}
 use Rattle.rules.proofs.Lists.{absent, none-of, upto-mem, upto-in, length-upto, asc-upto, Each, length-setAll}
+use Rattle.claims.proofs.FirstBook.{front, book-size}
 use Rattle.claims.proofs.Slots.{lowest-found, setAll-at}
 use Rattle.claims.proofs.Served.{present}
 use Rattle.claims.proofs.Keeping.{Kept}
@@ -24,12 +25,6 @@ use Rattle.claims.proofs.Agreeing.{Agrees}
 use Rattle.claims.proofs.Fine.{Fine, AllFine}
 
 -- ---- a list in parts: numbered, then one thing, then another
-
-front : {A : Type 0} (f : ℕ → A) (a n c : ℕ) (xs : List A) (d : A) → c < n → getD (map f (upto a n) ++ xs) c d ≡ f (a + c)
-unfolding upto
-front f a zero c xs d h = absurd (omega arith)
-front f a (suc n) zero xs d h = let q : a ≡ a + 0 = omega arith in ap f q
-front f a (suc n) (suc c) xs d h = let q : suc a + c ≡ a + suc c = omega arith in front f (suc a) n c xs d (omega arith) ∙ ap f q
 
 behind : {A : Type 0} (f : ℕ → A) (a n j : ℕ) (xs : List A) (d : A) → getD (map f (upto a n) ++ xs) (n + j) d ≡ getD xs j d
 unfolding upto
@@ -50,10 +45,6 @@ past v (suc m) k (suc j) d h = past v m k j d (omega arith)
 
 upto-not : (n k c : ℕ) → c < n → mem c (upto n k) ≡ false
 upto-not n k c h = absent (mem c (upto n k)) (λ e. let z = upto-in n k c e in omega arith)
-
-book-size : (inputs row : ℕ) → inputs ≤ row → length (firstBook inputs row) ≡ row
-unfolding firstBook
-book-size inputs row h = simp (length-append, length-map, length-upto, length-replicate) (omega arith)
 
 module _ (N : Netlist) (row opened : ℕ) (room : N .inputs + opened ≤ row) where
   abbrev first : List Slot

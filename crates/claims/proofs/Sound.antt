@@ -8,7 +8,7 @@ use mathlib.Core.List.{List, [], _∷_, _++_, map}
 use mathlib.Core.Option.{some}
 use lib.Dec.{eqb}
 use borrow.Author.Tests.{eqb-true, lt-ltb}
-use lib.ListN.{getD, length, replicate, take, length-append, length-replicate, length-map, length-take}
+use lib.ListN.{getD, length, replicate, take, length-take}
 use lib.Seq.{getD-take, length-take-le}
 use Rattle.rules.specs.Basics.{upto}
 use Rattle.rules.specs.Refusals.{good}
@@ -18,22 +18,13 @@ use Rattle.rules.specs.Values.{nor, table, values}
 use Rattle.rules.specs.Device.{run}
 use Rattle.rules.specs.Book.{Cell, unknown, ready, holds, firstBook, gateWith, steps, isHolding, placed, checked}
 use Rattle.rules.proofs.Laws.{no-way, bind-good, require-good, and-true, gateWith-spec}
-use Rattle.rules.proofs.Lists.{Each, length-upto}
+use Rattle.rules.proofs.Lists.{Each}
 use Rattle.claims.proofs.Table.{Below, table-keeps, values-spec}
+use Rattle.claims.proofs.FirstBook.{front, book-size}
 use Rattle.claims.proofs.Fits.{Fits, steps-fit}
 use Rattle.claims.proofs.Stays.{run-stays, steps-spare}
 
 -- ---- the first book
-
-book-length : (n row : ℕ) → n ≤ row → length (firstBook n row) ≡ row
-unfolding firstBook
-book-length n row h = simp (length-append, length-map, length-upto, length-replicate) (omega arith)
-
-held : (a n c : ℕ) (xs : List Cell) → c < n → getD (map holds (upto a n) ++ xs) c unknown ≡ holds (a + c)
-unfolding upto
-held a zero c xs h = absurd (omega arith)
-held a (suc n) zero xs h = let q : a ≡ a + 0 = omega arith in ap holds q
-held a (suc n) (suc c) xs h = let q : suc a + c ≡ a + suc c = omega arith in held (suc a) n c xs (omega arith) ∙ ap holds q
 
 blank : (m c : ℕ) → getD (replicate m unknown) c unknown ≡ unknown
 blank zero c = refl
@@ -49,21 +40,21 @@ past a (suc n) (suc c) m h = past (suc a) n c m (omega arith)
 -- it fits every row
 first-fits : (n : ℕ) (gs : List (List ℕ)) (r : List ℕ) → n ≤ length r → Fits (table nor (take n r) gs) (firstBook n (length r)) r
 unfolding firstBook
-first-fits n gs r h = record { len = book-length n (length r) h; val = λ c s e. val c (decLt c n) s e; one = λ c e. one c (decLt c n) e }
+first-fits n gs r h = record { len = book-size n (length r) h; val = λ c s e. val c (decLt c n) s e; one = λ c e. one c (decLt c n) e }
   where
     rest : List Cell
     rest = replicate (length r - n) unknown
 
     val : (c : ℕ) → Dec (c < n) → (s : ℕ) → getD (firstBook n (length r)) c unknown ≡ holds s → getD r c 0 ≡ getD (table nor (take n r) gs) s 0
     val c (yes q) s e =
-        let p = held 0 n c rest q in
+        let p = front holds 0 n c rest unknown q in
         let z : 0 + c ≡ s = cc in
         let z′ : c ≡ s = omega arith in
         rw (← z′) (sym (table-keeps nor (take n r) gs c (simp length-take (omega arith)) ∙ getD-take n r c 0 q))
     val c (no q) s e = let p = past 0 n c (length r - n) (omega arith) in absurd (no-way (cc))
 
     one : (c : ℕ) → Dec (c < n) → getD (firstBook n (length r)) c unknown ≡ ready → getD r c 0 ≡ 1
-    one c (yes q) e = let p = held 0 n c rest q in absurd (no-way (cc))
+    one c (yes q) e = let p = front holds 0 n c rest unknown q in absurd (no-way (cc))
     one c (no q) e = let p = past 0 n c (length r - n) (omega arith) in absurd (no-way (cc))
 
 -- ---- gates and places
