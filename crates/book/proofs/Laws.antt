@@ -153,13 +153,5 @@ module _ {inputs s : ℕ} {cells : List ℕ} (b : Begun inputs s cells) where
 pub cell-past : (cells : List ℕ) (row c : ℕ) → row ≤ c → 0 ≡ getD (take row cells) c 0
 cell-past cells row c h = sym (List·getD-eq-default (take row cells) 0 {n = c} (omega (arith, length-take row cells)))
 
-pub cell-none : (cells : List ℕ) (row c : ℕ) → length cells ≤ c → 0 ≡ getD (take row cells) c 0
-cell-none cells row c h = sym (List·getD-eq-default (take row cells) 0 {n = c} (omega (arith, length-take row cells)))
-
 pub cell-in : (cells : List ℕ) (row c : ℕ) → c < row → getD cells c 0 ≡ getD (take row cells) c 0
 cell-in cells row c h = sym (getD-take row cells c 0 h)
-
-pub put-none : (cells : List ℕ) (row c v : ℕ) → length cells ≤ c → cells ≡ kept row (set (said row cells) c (cellOf v)) cells
-put-none cells row c v h =
-    let l : length (said row cells) ≤ c = omega (arith, said-length row cells) in
-    rw (set-out (said row cells) c (cellOf v) l) (sym (kept-said row cells))

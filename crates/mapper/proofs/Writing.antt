@@ -51,9 +51,6 @@ writes-done {p = p} w = record { is = w .same; end = let e : p + 0 ≡ p = omega
 
 -- ---- one text after the other
 
-pub written-none : {out : List ℕ} {at : ℕ} → Written out at [] out at
-written-none = record { is = refl; end = omega arith }
-
 pub written-join : {out : List ℕ} {at : ℕ} {t out′ : List ℕ} {p : ℕ} {u out″ : List ℕ} {r : ℕ} → Written out at t out′ p → Written out′ p u out″ r → Written out at (t ++ u) out″ r
 written-join {out} {at} {t} {u = u} a b = record { is = b .is ∙ rw (a .is, a .end) (sym (sets-append t u out at)); end = omega (arith, a .end, b .end, length-append t u) }
 

@@ -88,6 +88,3 @@ module _ (text : List ℕ) (r : Reading) (e : partOf text r ≡ frontOf text) (z
 
   pub front-well : Well (netlistIn (r .netlist))
   front-well = well-front text (record { got = netlistIn (r .netlist); tail = drop (r .tail) text }) front-good
-
-  pub front-flat : WellFlat (r .netlist)
-  front-flat = flat (r .netlist) (front-well .lines)

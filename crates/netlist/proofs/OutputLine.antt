@@ -56,9 +56,6 @@ module _ (text : List ℕ) (at inputs gates : ℕ) where
           output-refused 2 (λ o. rw (half text at n e, eq-eqb (byteAt text at) 3 kind, word-not (n / 2 - 1) (at + 2) (λ z. h (omega (arith, f .even, f .least)))))
 
       module _ (six : n ≡ 6) (s : ℕ) (is : s ≡ wordAt text (at + 2)) where
-        two-on : at + 2 + 2 ≡ at + 4
-        two-on = omega arith
-
         named-output : (o : ℕ) → outputOf form01 (record { inputs = inputs; gates = gates; outputs = o }) (bytesFrom text at (n / 2))
             ≡ (require (leb inputs s && ltb s (inputs + gates)) 4 >> good s)
         unfolding outputOf bytesFrom due form01 pick _>>=_ orRefuse fields also wordAt

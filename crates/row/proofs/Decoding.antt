@@ -17,7 +17,6 @@ use Rattle.rules.specs.Sequence.{Set}
 use Rattle.rules.proofs.Laws.{no-way, and-true}
 use Rattle.lines.specs.declared.Line.the-variants.{Frame}
 use Rattle.lines.specs.Line.{lineAt, byteAt, bytesFrom}
-use Rattle.lines.proofs.Laws.{byte-small}
 use Rattle.lines.proofs.Meaning.{frame-fits}
 use Rattle.row.specs.declared.Entry.{Entry}
 use Rattle.row.specs.Decoded.{cellsIn, cellsFrom, firstOf, cellAt, endFrom, norOn, instructionAt, nextAt}
@@ -83,9 +82,6 @@ module _ (text : List ℕ) (at : ℕ) where
       go : Dec (at + 1 < length text) → firstOf (cellsFrom text at) ≡ Entry.Cell c → byteAt text at ≡ c
       go (yes h) f = fed (eqb (getD text at 0) 10) (rw (cells-open h) at f)
       go (no h) f = absurd (no-way (let z = cells-short (omega arith) in cc))
-
-  pub cell-small : (c : ℕ) → cellAt text at ≡ Entry.Cell c → c ≤ 255
-  cell-small c e = rw (← cell-is c e) (byte-small text at)
 
   pub ended : cellAt text at ≡ Entry.End → cellsFrom text at ≡ []
   unfolding cellAt firstOf

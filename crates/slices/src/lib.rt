@@ -46,14 +46,6 @@ pub fn put16(s: &mut [u16], i: usize, v: u16)
     }
 }
 
-pub fn put64(s: &mut [u64], i: usize, v: u64)
-    ensures { λ _. ⌜ now (s .exit) ≡ set (now (s .entry)) i v ⌝ }
-{
-    if i < s.len() {
-        s[i] = v;
-    }
-}
-
 // The part of a slice from a place on; the empty part at its end, past the end.
 pub fn rest8(s: &[u8], at: usize) -> &[u8]
     ensures { λ r. ⌜ now r ≡ drop at (now (s .entry)) ⌝ }
