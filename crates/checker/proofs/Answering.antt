@@ -13,7 +13,7 @@ use Rattle.rules.specs.Refusals.{Res, good, refused, refuse, _>>=_, _>>_, requi
 use Rattle.rules.specs.Netlist as rules
 use Rattle.rules.specs.Sequence.{Sequence, sequenceOf}
 use Rattle.rules.specs.Book.{Cell, firstBook, steps, placed, checked}
-use Rattle.row.proofs.ReadsWell.{reads-well}
+use Rattle.rules.proofs.SequenceReading.{sequence-read}
 use Rattle.row.specs.declared.Head.{Head}
 use Rattle.row.specs.declared.Reading.{Reading}
 use Rattle.row.specs.Decoded.{instructionsAt, placesAt, sequenceIn, refusalIn}
@@ -122,9 +122,9 @@ module _ (n : Netlist) (w : Well (netlistIn n)) (text : List ℕ) (s : Reading) 
           rw (eq-eqb (h .inputs) (n .inputs) same, u) at judged-is
 
       pub judge-agreed : h .outputs ≡ n .outputs → Agreed n text h
-      unfolding sequenceAt
+      unfolding sequenceAt form01
       judge-agreed z =
-          let f = reads-well text (sequenceAt text h) read-is in
+          let f = sequence-read form01 text (sequenceAt text h) read-is in
           record { well = w; inputsAgree = same; outputsAgree = z; rowMost = f .rowMost; inputsFew = f .fewer }
 
     pub judge-followed : (r : Res ℕ) → r ≡ checked (netlistIn n) (sequenceAt text h) → r ≡ judgedOf (netlistIn n) text

@@ -20,7 +20,7 @@ use Rattle.rules.specs.Book.{firstBook, steps, placed, checked, checkedText}
 use Rattle.rules.specs.Programs.{refusalLine, cyclesLine, printed, held, checkingAnswer, checkingProgram}
 use Rattle.rules.specs.Calls.{checkOutcome, rowcheckOutput}
 use Rattle.rules.proofs.Laws.{bind-good, require-good}
-use Rattle.row.proofs.ReadsWell.{reads-well}
+use Rattle.rules.proofs.SequenceReading.{sequence-read}
 use Rattle.netlist.specs.declared.Netlist.{Netlist}
 use Rattle.netlist.specs.declared.Reading.{Reading}
 use Rattle.netlist.specs.Flat.{netlistIn, readingOf, partOf, frontOf}
@@ -89,12 +89,12 @@ checked-count N S n e =
     cc
 
 after-few : (input : List ℕ) (n : ℕ) → checkingAnswer form01 input ≡ good n → n ≤ 1024
-unfolding judgedOf
+unfolding judgedOf form01
 after-few input n e =
     let a = bind-good (frontOf input) (λ p. judgedOf (p .got) (p .tail)) n (sym (after-is input) ∙ e) in
     let b = bind-good (sequenceOf form01 (a .0 .tail)) (λ S. checked (a .0 .got) S) n (a .2) in
-    let w = reads-well (a .0 .tail) (b .0) (b .1) in
-    omega (arith, w .instructionsMost, checked-count (a .0 .got) (b .0) n (b .2))
+    let w = sequence-read form01 (a .0 .tail) (b .0) (b .1) in
+    omega (arith, w .most, checked-count (a .0 .got) (b .0) n (b .2))
 
 pub cycles-fit : (input : List ℕ) (a : Answer) (n : ℕ) → meaning a ≡ checkingAnswer form01 input → a ≡ Answer.Given n → n < 65536
 cycles-fit input a n answers q = omega (arith, after-few input n (sym answers ∙ ap meaning q))

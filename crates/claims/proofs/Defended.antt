@@ -18,7 +18,8 @@ use Rattle.claims.specs.Defended.{RunsRight, Defended}
 use Rattle.rules.proofs.Lists.{each-at}
 use Rattle.claims.proofs.Stays.{run-ends, run-length, run-stays}
 use Rattle.claims.proofs.Sound.{Checked, checked-good, inputs-stay, places-hold}
-use Rattle.claims.proofs.ReadsWell.{ReadSequence, netlist-ordered, sequence-read}
+use Rattle.rules.proofs.SequenceReading.{ReadSequence, sequence-read}
+use Rattle.claims.proofs.ReadsWell.{netlist-ordered}
 use Rattle.claims.proofs.Outcomes.{simulates, evaluates, output-at, bits-length, bits-take}
 
 cycles-end : (budget : ℕ) (is : List Instruction) → length is ≤ budget → cycles budget is ≡ length is
@@ -48,7 +49,7 @@ module _ (netlist sequence : List ℕ) (N : Netlist) (S : Sequence) (n : ℕ) (r
       ins : List ℕ
       ins = take (N .inputs) row
 
-      r : ReadSequence S
+      r : ReadSequence form01 S
       r = sequence-read form01 sequence S readS
 
       long : length row ≡ S .row

@@ -10,4 +10,3 @@ pub mod Whole
 pub mod Listing
 pub mod Outcomes
 pub mod Running
-pub mod ReadsWell

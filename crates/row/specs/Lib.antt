@@ -1,4 +1,3 @@
 pub mod Decoded
 pub mod Answers
 pub mod Runs
-pub mod Well
