@@ -1,4 +1,5 @@
 // The checker's book of cells: what is known of each cell of a row, and what one instruction makes of it.
+#![tactic(auto)]
 ghost use Rattle.std.specs.Prelude.{◌≡◌, ◌+◌, ◌-◌, ◌*◌, ◌/◌, ◌≤◌, min, ltb, length, get_or, take, set};
 ghost use Rattle.rules.specs.Basics.{any, set_all};
 ghost use Rattle.rules.specs.Book.{ready};

@@ -1,1 +1,2 @@
 // No code stands here: the claims are in specs/, their proofs in proofs/.
+#![tactic(auto)]

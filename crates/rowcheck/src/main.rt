@@ -1,4 +1,5 @@
 // The checking program: reads a netlist and then a sequence from standard input, prints the verdict. The work is checker::program.
+#![tactic(auto)]
 ghost use Rattle.std.specs.Prelude.{◌≡◌, length};
 
 // Room for one line.

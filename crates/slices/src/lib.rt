@@ -1,4 +1,6 @@
 // Entries of lent slices: 0 past the end, and a write past the end changes nothing. So every call takes any slice and any place.
+#![tactic(auto)]
+
 ghost use Rattle.std.specs.Prelude.{◌≡◌, get_or, set, drop};
 ghost use Rattle.rules.specs.Values.{are_bits};
 
