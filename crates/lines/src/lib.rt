@@ -1,5 +1,6 @@
 // Texts: hexadecimal lines read at a place of a slice. Every function takes any slice and any place.
 #![tactic(auto)]
+
 ghost use Rattle.std.specs.Prelude.{◌≡◌, ◌+◌, drop};
 ghost use Rattle.rules.specs.Basics.{within};
 ghost use Rattle.rules.specs.Lines.{is_digit, value_of, digits};
