@@ -1,6 +1,7 @@
 // Operand lists found among others: each list has a key, and keys that leave one remainder hang in one chain, the latest first.
 // A link is one more than the place that it leads to; 0 ends a chain.
 #![tactic(auto)]
+
 ghost use Rattle.std.specs.Prelude.{◌≡◌, min};
 ghost use Rattle.index.specs.Chains.{digit_at, key_of, zeros, chained, follows, found_in, again_in, twice_in, remainder_of};
 
