@@ -1,5 +1,6 @@
 // The netlist reader: a netlist's text into flat arrays.
 #![tactic(auto)]
+
 ghost use Rattle.std.specs.Prelude.{◌≡◌, length};
 ghost use Rattle.rules.specs.Form.{form01};
 ghost use Rattle.rules.specs.Netlist.{netlist_lines, netlist_of, well_formed};
