@@ -1,5 +1,6 @@
 // Sequences and the row: one pass reads a whole text and checks it; afterwards instructions are decoded from the text as they run.
 #![tactic(auto)]
+
 ghost use Rattle.std.specs.Prelude.{◌≡◌};
 ghost use Rattle.rules.specs.Form.{form01};
 ghost use Rattle.rules.specs.Sequence.{sequence_of};
