@@ -95,6 +95,11 @@ no_room_exactly row text out N read h k = (
   λ c. refusal_delivered row text out _ (nine_text form01 row text N read (within_holds 2 256 row h k) (nine N row c)),
 )
 
+row_refused : (row : ℕ) (text : List ℕ) → (row < 2) ⊎ (256 < row) → mapped_text form01 row text ≡ refuse 8
+unfolding form01 mapped_text ◌>>◌ require
+row_refused row text (inl h) = rw (lt-leb 2 row h)
+row_refused row text (inr h) = rw (le-leb 2 row (omega arith), lt-leb row 256 h)
+
 pub no_room_only : NoRoomOnly
 unfolding form01
 no_room_only = record {
@@ -108,9 +113,5 @@ no_room_only = record {
       (N, p, w.0, w.1);
 }
   where
-    row_refused : (row : ℕ) (text : List ℕ) → (row < 2) ⊎ (256 < row) → mapped_text form01 row text ≡ refuse 8
-    row_refused row text (inl h) = unfold mapped_text ◌>>◌ require in rw (lt-leb 2 row h)
-    row_refused row text (inr h) = unfold mapped_text ◌>>◌ require in rw (le-leb 2 row (omega arith), lt-leb row 256 h)
-
     reader_refused : (row : ℕ) (text : List ℕ) (x : Refusal) → 2 ≤ row → row ≤ 256 → netlist_of form01 text ≡ refused x → mapped_text form01 row text ≡ refused x
     reader_refused row text x h k p = unfold mapped_text ◌>>=◌ ◌>>◌ require in rw (le-leb 2 row h, le-leb row 256 k, p)

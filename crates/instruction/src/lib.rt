@@ -1,5 +1,6 @@
 // An instruction where it stands in a text, for whoever takes a sequence's instructions one by one.
 #![tactic(auto)]
+
 ghost use Rattle.std.specs.Prelude.{◌≡◌, ◌+◌, ◌*◌, ◌≤◌, length};
 ghost use Rattle.row.specs.Decoded.{cells_from};
 ghost use Rattle.instruction.specs.Line.{instruction_at, idle_at};

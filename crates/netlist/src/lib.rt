@@ -19,7 +19,7 @@ mod twins;
 mod used;
 
 // A netlist. Operand k of gate g, counted from 0, is ops[4 g + k], of counts[g]; gate g is the signal inputs + g.
-#[derive(Drop)]
+#[derive(Clone, Copy)]
 pub struct Netlist {
     pub inputs: usize,
     pub gates: usize,
