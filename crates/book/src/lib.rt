@@ -1,5 +1,6 @@
 // The checker's book of cells: what is known of each cell of a row, and what one instruction makes of it.
 #![tactic(auto)]
+
 ghost use Rattle.std.specs.Prelude.{◌≡◌, ◌+◌, ◌-◌, ◌*◌, ◌/◌, ◌≤◌, min, ltb, length, get_or, take, set};
 ghost use Rattle.rules.specs.Basics.{any, set_all};
 ghost use Rattle.rules.specs.Book.{ready};
@@ -11,7 +12,7 @@ use instruction::Instruction;
 use rules::Refusal;
 
 // What is known of the cells of a row whose first cells hold the inputs: 0 unknown, 1 ready, s + 2 where the cell holds signal s.
-#[derive(Drop)]
+#[derive(Clone, Copy)]
 pub struct Book {
     pub row: usize,
     pub inputs: usize,
