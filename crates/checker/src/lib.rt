@@ -1,5 +1,6 @@
 // The checker of sequences from any producer: `check` over two texts, and the checking program over one.
 #![tactic(auto)]
+
 ghost use Rattle.std.specs.Prelude.{◌≡◌, length};
 ghost use Rattle.std.proofs.lemmas.List.Edits.{sets};
 ghost use Rattle.rules.specs.Form.{form01};

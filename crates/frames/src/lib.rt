@@ -1,6 +1,7 @@
 // A frame reader that holds the text and its place. The line reading is in the functions that take a slice and a number, which take
 // any slice and any place; the functions over the struct only take it apart.
 #![tactic(auto)]
+
 ghost use Rattle.std.specs.Prelude.{◌≡◌};
 ghost use Rattle.rules.specs.Calls.{frame_outcome, place_outcome};
 ghost use Rattle.frames.specs.Reader.{spot_in, at_start, gives, spot, moved, piece_at, frames_in};

@@ -8,7 +8,7 @@ ghost use Rattle.instruction.specs.Line.{instruction_at, idle_at};
 use row::Entry;
 
 // A set line or else a NOR line, where its first cell's digits stand, how many cells it names, and where the next line begins.
-#[derive(Drop)]
+#[derive(Clone, Copy)]
 pub struct Instruction {
     pub set: bool,
     pub first: usize,

@@ -1,5 +1,6 @@
 // The order of a netlist's gates: visited from the roots on, high weight first; and how many want each signal.
 #![tactic(auto)]
+
 ghost use Rattle.std.specs.Prelude.{◌≡◌, length};
 ghost use Rattle.order.specs.Sort.{zeros, Blank};
 ghost use Rattle.order.specs.Visit.{InOrder};

@@ -11,7 +11,7 @@ use netlist::Netlist;
 use slices::{at8, at16, put8, put16};
 
 // At most four signals.
-#[derive(Drop)]
+#[derive(Clone, Copy)]
 pub struct Four {
     pub n: usize,
     pub a: [u16; 4],
