@@ -3,7 +3,7 @@
 use Prim.Native.Nat.{ℕ, zero, suc, ◌+◌, ◌*◌, ◌<◌, ◌≤◌}
 use native.Mathlib.Omega.{arith}
 use native.Mathlib.Numerals.{add-one}
-use mathlib.Core.Path.{◌≡◌, refl, ◌∙◌}
+use mathlib.Core.Path.{◌≡◌, refl, sym, ap, ◌∙◌, subst}
 use mathlib.Core.Bool.{Bool, true, false, ◌&&◌, ◌||◌, not}
 use mathlib.Core.List.{List, [], ◌∷◌, ◌++◌}
 use lib.Dec.{eqb}
@@ -95,10 +95,15 @@ unfolding waiting pick
 waiting_less done k [] s j h e = absurd (omega arith)
 waiting_less done k (g ∷ gs) s zero h e =
     let z : k + 0 ≡ k = omega arith in
-    rw (z, snoc_self done k, waiting_before done k (suc k) gs s (omega arith)) (let f : mem k done ≡ false = rw z at e in rw f (omega arith))
+    let f : mem k done ≡ false = rw z at e in
+    let here : waiting done k (g ∷ gs) s ≡ waiting (done ++ (k ∷ [])) k (g ∷ gs) s + times s g =
+    rw (snoc_self done k, waiting_before done k (suc k) gs s (omega arith), f) (omega arith) in
+    subst (λ (x : ℕ). waiting done k (g ∷ gs) s ≡ waiting (done ++ (x ∷ [])) k (g ∷ gs) s + times s g) (sym z) here
 waiting_less done k (g ∷ gs) s (suc j) h e =
     let z : k + suc j ≡ suc k + j = omega arith in
-    rw (z, mem-other (suc k + j) k done (λ q. omega arith)) (omega (arith, waiting_less done (suc k) gs s j (omega arith) (rw z at e)))
+    let later : waiting done k (g ∷ gs) s ≡ waiting (done ++ ((suc k + j) ∷ [])) k (g ∷ gs) s + times s (get_or gs j []) =
+    rw (mem-other (suc k + j) k done (λ q. omega arith)) (omega (arith, waiting_less done (suc k) gs s j (omega arith) (rw z at e))) in
+    subst (λ (x : ℕ). waiting done k (g ∷ gs) s ≡ waiting (done ++ (x ∷ [])) k (g ∷ gs) s + times s (get_or gs j [])) (sym z) later
 
 -- ---- the loop over the gates
 
