@@ -1,5 +1,6 @@
 // The mapper: a netlist's text to the text of a sequence for one row.
 #![tactic(auto)]
+
 ghost use Rattle.std.specs.Prelude.{◌≡◌, ◌<◌, ◌≤◌, length};
 ghost use Rattle.rules.specs.Calls.{outcome_of, map_outcome, delivered};
 ghost use Rattle.netlist.specs.Well.{WellFlat};
