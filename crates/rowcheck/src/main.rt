@@ -1,5 +1,6 @@
 // The checking program: reads a netlist and then a sequence from standard input, prints the verdict. The work is checker::program.
 #![tactic(auto)]
+
 ghost use Rattle.std.specs.Prelude.{◌≡◌, length};
 
 // Room for one line.
