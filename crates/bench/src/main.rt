@@ -1,5 +1,6 @@
 // The bench sheet's run cases: each prints one line, held to the file stdout.
 #![tactic(auto)]
+
 mod frame;
 mod mapping;
 mod reading;

@@ -1,6 +1,7 @@
 // The public calls for C, C++ and Rust: numbers and byte slices only. A slice is a pointer and then a length.
 // An answer is one 64-bit number: its value, or minus the refusal's number.
 #![tactic(auto)]
+
 ghost use Rattle.std.specs.Prelude.{◌≡◌, ◌-◌, ◌%◌, ◌^◌, length};
 ghost use Rattle.rules.specs.Refusals.{meaning};
 ghost use Rattle.rules.specs.Calls.{map_outcome, evaluate_outcome, check_outcome, simulate_outcome, tail_outcome, frame_outcome, place_outcome};

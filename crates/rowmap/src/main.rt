@@ -1,5 +1,6 @@
 // The mapping program: reads a job line and a netlist from standard input, prints the sequence. The work is job::program.
 #![tactic(auto)]
+
 mod job;
 
 fn show(out: &[u8], n: usize) {
