@@ -1,4 +1,4 @@
-//! Links the proved library that `rt staticlib calls` writes, or a copy of it in another folder.
+//! Links the proved library that `rt lib` writes in crates/calls, or a copy of it in another folder.
 
 use std::path::Path;
 
@@ -6,13 +6,13 @@ use std::path::Path;
 const FOLDER: &str = "CALLS_FOLDER";
 
 fn main() {
-    let written = concat!(env!("CARGO_MANIFEST_DIR"), "/../../target/staticlib");
+    let written = concat!(env!("CARGO_MANIFEST_DIR"), "/../../crates/calls/out");
     let folder = std::env::var(FOLDER).unwrap_or_else(|_| written.into());
     let library = format!("{folder}/libcalls.a");
     println!("cargo::rerun-if-env-changed={FOLDER}");
     println!("cargo::rerun-if-changed={library}");
     if !Path::new(&library).exists() {
-        println!("cargo::error=the proved library is not built: run 'rt staticlib calls' first");
+        println!("cargo::error=the proved library is not built: run 'rt lib' in crates/calls first");
         return;
     }
     println!("cargo::rustc-link-search=native={folder}");

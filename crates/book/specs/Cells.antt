@@ -1,6 +1,6 @@
 -- What the numbers of a book say of the cells, in document 01's words: a signal, ready, or unknown.
 -- Assumes nothing.
-use Rattle.std.specs.Prelude.{ℕ, zero, suc, ◌+◌, List, ◌++◌, map, take, drop, replicate}
+use Rattle.std.specs.Prelude.{ℕ, zero, suc, List, ◌++◌, map, take, drop, replicate}
 use Rattle.std.proofs.lemmas.List.Edits.{sets}
 use Rattle.rules.specs.Basics.{upto}
 use Rattle.rules.specs.Book.{Cell, unknown, ready, holds}

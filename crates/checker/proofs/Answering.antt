@@ -1,5 +1,5 @@
 -- What the checker answers where the netlist was read, test by test.
-use Prim.Native.Nat.{ℕ, ◌-◌, ◌≤◌, min}
+use Prim.Native.Nat.{ℕ, ◌≤◌, min}
 use native.Mathlib.Omega.{arith}
 use mathlib.Core.Path.{◌≡◌, sym, ap, ◌∙◌}
 use mathlib.Core.Bool.{Bool, true, false}
@@ -10,8 +10,7 @@ use borrow.Author.Tests.{eq-eqb, ne_eqb}
 use Rattle.rules.specs.declared.Refusal.{Refusal}
 use Rattle.rules.specs.Form.{form01}
 use Rattle.rules.specs.Refusals.{Res, good, refused, refuse, ◌>>=◌, ◌>>◌, require}
-use Rattle.rules.specs.Netlist as rules
-use Rattle.rules.specs.Sequence.{Sequence, sequence_of}
+use Rattle.rules.specs.Sequence.{sequence_of}
 use Rattle.rules.specs.Book.{Cell, first_book, steps, placed, checked}
 use Rattle.rules.proofs.SequenceReading.{sequence_read}
 use Rattle.row.specs.declared.Head.{Head}

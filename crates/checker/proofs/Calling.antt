@@ -11,7 +11,7 @@ use Rattle.rules.specs.declared.Refusal.{Refusal}
 use Rattle.rules.specs.declared.Answer.{Answer}
 use Rattle.rules.specs.Basics.{pick}
 use Rattle.rules.specs.Form.{form01}
-use Rattle.rules.specs.Refusals.{Res, good, refused, ◌>>=◌, ◌>>◌, meaning}
+use Rattle.rules.specs.Refusals.{Res, good, refused, ◌>>=◌, meaning}
 use Rattle.rules.specs.Lines.{written, bytes_of}
 use Rattle.rules.specs.Netlist as rules
 use Rattle.rules.specs.Netlist.{Part, netlist_lines, netlist_of, well_formed}
@@ -21,7 +21,6 @@ use Rattle.rules.specs.Programs.{refusal_line, cycles_line, printed, held, check
 use Rattle.rules.specs.Calls.{check_outcome, rowcheck_output}
 use Rattle.rules.proofs.Laws.{bind_good, require_good}
 use Rattle.rules.proofs.SequenceReading.{sequence_read}
-use Rattle.netlist.specs.declared.Netlist.{Netlist}
 use Rattle.netlist.specs.declared.Reading.{Reading}
 use Rattle.netlist.specs.Flat.{netlist_in, reading_of, part_of, front_of}
 use Rattle.netlist.proofs.FlatWell.{read_good, front_good}

@@ -9,7 +9,7 @@ use mathlib.Core.List.{List, [], ◌++◌, map}
 use mathlib.Core.Option.{some}
 use lib.Dec.{ltb}
 use borrow.Author.Tests.{ltb-true, le-ltb}
-use lib.ListN.{get_or, set, replicate, length-append, length-map, length-replicate}
+use lib.ListN.{get_or, replicate, length-append, length-map, length-replicate}
 use Rattle.rules.specs.Basics.{pick, mem, upto, set_all}
 use Rattle.rules.specs.Refusals.{◌>>=◌}
 use Rattle.rules.specs.Netlist.{Netlist}

@@ -1,5 +1,5 @@
 -- What the line reader answers is what document 01 says of the line: its bytes, the text after it, or its refusal.
-use Prim.Native.Nat.{ℕ, zero, suc, ◌+◌, ◌-◌, ◌*◌, ◌/◌, ◌%◌, ◌<◌, ◌≤◌}
+use Prim.Native.Nat.{ℕ, zero, suc, ◌+◌, ◌*◌, ◌/◌, ◌%◌, ◌<◌, ◌≤◌}
 use native.Mathlib.Omega.{arith}
 use native.Mathlib.Numerals.{add-one}
 use native.Mathlib.Decide.{dec_lt}
@@ -16,7 +16,6 @@ use Rattle.rules.specs.declared.Answer.{Answer}
 use Rattle.rules.specs.Basics.{pick}
 use Rattle.rules.specs.Form.{form01, one, two}
 use Rattle.rules.specs.Refusals.{Res, good, refused}
-use Rattle.rules.specs.Lines as rules
 use Rattle.rules.specs.Lines.{value_of, digits, is_line, bytes_in, first_line, line, nothing, numbers, also}
 use Rattle.rules.proofs.Laws.{no_way, and_true}
 use Rattle.lines.specs.declared.Line.{Line}

@@ -9,7 +9,6 @@ use lib.Dec.{leb}
 use lib.ListN.{length, drop}
 use borrow.Author.Tests.{eq-eqb, ne_eqb, leb-true}
 use Rattle.rules.specs.declared.Refusal.{Refusal}
-use Rattle.rules.specs.declared.Answer.TheVariants.{Refused}
 use Rattle.rules.specs.Basics.{pick, within}
 use Rattle.rules.specs.Form.{form01, one, two}
 use Rattle.rules.specs.Refusals.{good, refuse, ◌>>=◌, ◌>>◌, require, or_refuse}

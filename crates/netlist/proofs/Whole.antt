@@ -18,7 +18,6 @@ use Rattle.rules.specs.Lines.{Line, line}
 use Rattle.rules.specs.Netlist as rules
 use Rattle.rules.specs.Netlist.{Part, head_of, gate_of, output_of, lines, netlist_lines, netlist_tail, tail_of}
 use Rattle.rules.specs.Calls.{tail_outcome}
-use Rattle.netlist.specs.declared.Netlist.{Netlist}
 use Rattle.netlist.specs.declared.Reading.{Reading}
 use Rattle.netlist.specs.declared.line.Head.{Head}
 use Rattle.netlist.specs.declared.line.Head.TheVariants as head

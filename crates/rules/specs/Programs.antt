@@ -4,7 +4,7 @@ use Rattle.std.specs.Prelude.{ℕ, ◌+◌, List, [], ◌∷◌, ltb, get_or, le
 use Rattle.rules.specs.declared.Refusal.{Refusal}
 use Rattle.rules.specs.Basics.{pick}
 use Rattle.rules.specs.Form.{Form, two}
-use Rattle.rules.specs.Refusals.{Res, good, refused, refuse, ◌>>=◌, ◌>>◌, or_refuse}
+use Rattle.rules.specs.Refusals.{Res, good, refused, refuse, ◌>>=◌, or_refuse}
 use Rattle.rules.specs.Lines.{line, fields, bytes_of, written}
 use Rattle.rules.specs.Netlist.{due, netlist_lines, well_formed}
 use Rattle.rules.specs.Sequence.{sequence_of}

@@ -6,13 +6,13 @@ use std::process::{exit, Command, Stdio};
 
 /// What a program of the repository prints for an input.
 fn run(name: &str, input: &[u8]) -> Vec<u8> {
-    let path = format!("{}/../../target/bin/{name}", env!("CARGO_MANIFEST_DIR"));
+    let path = format!("{}/../../crates/{name}/out/{name}", env!("CARGO_MANIFEST_DIR"));
     let started = Command::new(path)
         .stdin(Stdio::piped())
         .stdout(Stdio::piped())
         .spawn();
     let Ok(mut child) = started else {
-        println!("{name} is not built: run rt check first");
+        println!("{name} is not built: run rt run in its folder first");
         exit(1);
     };
     if let Some(mut stdin) = child.stdin.take() {

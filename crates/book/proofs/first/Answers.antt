@@ -1,7 +1,6 @@
 use mathlib.Core.Path.{ap}
 use Rattle.book.specs.Cells.{first_of}
 use native.Mathlib.Omega.{arith}
-use Prim.Native.Nat.{◌-◌}
 use Rattle.book.proofs.Laws.{begun_turn, begun_stop, begun_end}
 use Rattle.book.proofs.first.Goals as goal
 

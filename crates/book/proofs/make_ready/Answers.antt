@@ -1,4 +1,3 @@
-use Prim.Native.Nat.{◌-◌}
 use Rattle.rules.specs.Basics.{set_all}
 use Rattle.row.proofs.Turns.{left_turn, left_end}
 use Rattle.book.proofs.Laws.{ready_turn, kept_said}

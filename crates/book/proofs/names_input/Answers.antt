@@ -1,4 +1,3 @@
-use Prim.Native.Nat.{◌-◌}
 use mathlib.Core.Path.{refl}
 use Rattle.rules.specs.Basics.{any}
 use Rattle.row.proofs.Turns.{left_turn, left_stop, left_end}

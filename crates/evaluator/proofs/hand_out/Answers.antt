@@ -1,4 +1,3 @@
-use Prim.Native.Nat.{◌-◌}
 use Rattle.evaluator.proofs.Handed.{handing_turn, handing_end}
 use Rattle.evaluator.proofs.hand_out.Goals as goal
 

@@ -1,4 +1,3 @@
-use Prim.Native.Nat.{◌-◌}
 use native.Mathlib.Omega.{arith}
 use Rattle.evaluator.proofs.Worked.{norring_turn, norring_stop, norring_end}
 use Rattle.evaluator.proofs.nor_of.Goals as goal

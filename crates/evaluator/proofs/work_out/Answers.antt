@@ -1,4 +1,3 @@
-use Prim.Native.Nat.{◌-◌}
 use Rattle.evaluator.proofs.Worked.{working_start, working_turn}
 use Rattle.evaluator.proofs.work_out.Goals as goal
 

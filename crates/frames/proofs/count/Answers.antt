@@ -1,4 +1,3 @@
-use Prim.Native.Nat.{◌-◌}
 use Rattle.frames.proofs.Counting.{counted_start, counted_less, counted_turn, counted_end}
 use Rattle.frames.proofs.count.Goals as goal
 

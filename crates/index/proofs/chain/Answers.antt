@@ -1,4 +1,3 @@
-use Prim.Native.Nat.{◌-◌}
 use Rattle.index.proofs.Links.{chaining_start, chaining_turn}
 use Rattle.index.proofs.chain.Goals as goal
 

@@ -1,4 +1,3 @@
-use Prim.Native.Nat.{◌-◌}
 use mathlib.Core.Path.{sym, ◌∙◌, ap}
 use Rattle.index.specs.Chains.{twice_in}
 use Rattle.index.proofs.Links.{asking_stop, asking_turn, asking_end}

@@ -1,4 +1,3 @@
-use Prim.Native.Nat.{◌-◌}
 use Rattle.instruction.proofs.Counting.{counted_turn, counted_end}
 use Rattle.instruction.proofs.count.Goals as goal
 

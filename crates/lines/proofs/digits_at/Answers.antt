@@ -1,5 +1,4 @@
 use mathlib.Core.Path.{sym, ◌∙◌}
-use Prim.Native.Nat.{◌-◌}
 use Rattle.lines.proofs.Laws.{scanned_turn, scanned_stop, scanned_end}
 use Rattle.std.proofs.Common.{rules}
 use Rattle.lines.proofs.digits_at.Goals as goal

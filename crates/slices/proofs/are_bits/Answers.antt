@@ -1,4 +1,3 @@
-use Prim.Native.Nat.{◌-◌}
 use Rattle.slices.proofs.Bits.{bits_long, bits_start, bits_stop, bits_turn, bits_end}
 use Rattle.slices.proofs.are_bits.Goals as goal
 

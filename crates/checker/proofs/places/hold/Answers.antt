@@ -1,4 +1,3 @@
-use Prim.Native.Nat.{◌-◌}
 use Rattle.checker.proofs.Placing.{held_turn, held_stop, held_end}
 use Rattle.checker.proofs.places.hold.Goals as goal
 

@@ -1,4 +1,3 @@
-use Prim.Native.Nat.{◌-◌}
 use Rattle.checker.proofs.Working.{worked_turn, worked_stop, worked_end, inside}
 use Rattle.checker.proofs.work.worked.Goals as goal
 

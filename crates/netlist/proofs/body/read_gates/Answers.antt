@@ -1,4 +1,3 @@
-use Prim.Native.Nat.{◌-◌}
 use Rattle.netlist.proofs.Following.{gating_start, gating_turn, gating_stop, gating_end}
 use Rattle.std.proofs.Common.{rules}
 use Rattle.netlist.proofs.body.read_gates.Goals as goal

@@ -1,4 +1,3 @@
-use Prim.Native.Nat.{◌-◌}
 use Rattle.netlist.proofs.Following.{outputting_start, outputting_turn, outputting_stop, outputting_end}
 use Rattle.std.proofs.Common.{rules}
 use Rattle.netlist.proofs.body.read_outputs.Goals as goal

@@ -1,4 +1,3 @@
-use Prim.Native.Nat.{◌-◌}
 use mathlib.Core.Path.{◌∙◌, ap}
 use Rattle.netlist.specs.Keys.{keys_to, keys_in}
 use Rattle.netlist.proofs.Keyed.{keying_start, keying_turn, keying_end}

@@ -1,4 +1,3 @@
-use Prim.Native.Nat.{◌-◌}
 use native.Mathlib.Omega.{arith}
 use Rattle.netlist.proofs.Operands.{ascend_turn, ascend_stop, ascend_end}
 use Rattle.netlist.proofs.line.ascend.Goals as goal

@@ -1,4 +1,3 @@
-use Prim.Native.Nat.{◌-◌}
 use native.Mathlib.Omega.{arith}
 use Rattle.netlist.proofs.OneLine.{word_fits}
 use Rattle.netlist.proofs.Operands.{stored_turn, stored_end}

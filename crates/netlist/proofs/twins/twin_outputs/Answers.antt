@@ -1,4 +1,3 @@
-use Prim.Native.Nat.{◌-◌}
 use native.Mathlib.Omega.{arith}
 use Rattle.netlist.proofs.Alike.{seeing_start, seeing_stop, seeing_turn, seeing_end}
 use Rattle.netlist.proofs.twins.twin_outputs.Goals as goal

@@ -1,4 +1,3 @@
-use Prim.Native.Nat.{◌-◌}
 use Rattle.netlist.proofs.Marking.{checking_turn, checking_stop, checking_end}
 use Rattle.netlist.proofs.used.all_marked.Goals as goal
 

@@ -1,4 +1,3 @@
-use Prim.Native.Nat.{◌-◌}
 use Rattle.netlist.proofs.Marking.{marking_turn, marking_end}
 use Rattle.netlist.proofs.used.mark.Goals as goal
 

@@ -1,4 +1,3 @@
-use Prim.Native.Nat.{◌-◌}
 use Rattle.netlist.proofs.Marking.{gates_start, gates_turn}
 use Rattle.netlist.proofs.used.mark_gates.Goals as goal
 

@@ -1,4 +1,3 @@
-use Prim.Native.Nat.{◌-◌}
 use native.Mathlib.Omega.{arith}
 use Rattle.rules.specs.Values.{nor}
 use Rattle.row.proofs.Decoding.{walk_turn, walk_end}

@@ -1,4 +1,3 @@
-use Prim.Native.Nat.{◌-◌}
 use Rattle.row.proofs.Running.{ran_turn, ran_end}
 use Rattle.std.proofs.Common.{rules}
 use Rattle.row.proofs.device.run.Goals as goal

@@ -1,4 +1,3 @@
-use Prim.Native.Nat.{◌-◌}
 use mathlib.Core.Path.{refl}
 use Rattle.rules.specs.Basics.{set_all}
 use Rattle.row.proofs.Decoding.{walk_turn, walk_end}

@@ -1,4 +1,3 @@
-use Prim.Native.Nat.{◌-◌}
 use Rattle.row.proofs.Onward.{onward_turn, onward_stop, onward_end}
 use Rattle.row.proofs.frames.place_lines.Goals as goal
 
