@@ -1,8 +1,8 @@
 /*
  * Bhedhmurali: NOR netlists on one row of resistive memory.
  *
- * Link the static library that `rt staticlib calls` writes to
- * target/staticlib/libcalls.a. No call allocates, keeps a pointer, or needs
+ * Link the static library that `rt lib` in crates/calls writes to
+ * crates/calls/out/libcalls.a. No call allocates, keeps a pointer, or needs
  * anything set up. Every call takes every text, row and number there are, and
  * ends. Texts are bytes with a length; no terminating zero is read or written.
  *

@@ -63,7 +63,7 @@ pub struct Piece {
     pub next: usize,
 }
 
-// One frame by way of a reader that is lent to `next`. Its parameters are plain, so whoever calls it needs no walk.
+// One frame by way of a reader that is lent to `next`. Its parameters are plain, so whoever calls it lends nothing.
 pub fn piece_at(text: &[u8], at: usize) -> Piece
     ensures { result ≡ piece_at text.now at }
 {

@@ -13,7 +13,7 @@ use lib.Seq.{get_or-set_same, get_or-set_other}
 use Rattle.rules.specs.Basics.{mem, keep, set_all}
 use Rattle.rules.specs.Sequence.{Instruction, Nor}
 use Rattle.rules.specs.Netlist.{operands_of}
-use Rattle.rules.specs.Cells.{blank, ready, spent, keeps, cell_of, State, released, place}
+use Rattle.rules.specs.Cells.{blank, spent, keeps, cell_of, State, released, place}
 use Rattle.rules.proofs.Laws.{no_way, snoc_self, snoc_more, or_right}
 use Rattle.rules.proofs.Lists.{length-set_all}
 use Rattle.netlist.specs.declared.Netlist.{Netlist}

@@ -11,7 +11,7 @@ use lib.ListN.{get_or, length, take, set, replicate, length-replicate, length-se
 use lib.Seq.{sets, length-sets, length-take-le, get_or-set_same, get_or-set_other, get_or_at}
 use Rattle.rules.specs.Basics.{mem}
 use Rattle.rules.specs.Values.{table}
-use Rattle.rules.specs.Weight.{high_to_low, gate_operands, weight_in, weigh, weights}
+use Rattle.rules.specs.Weight.{high_to_low, gate_operands, weight_in, weigh}
 use Rattle.netlist.specs.declared.Netlist.{Netlist}
 use Rattle.netlist.specs.Flat.{from, gate_in, gates_in}
 use Rattle.order.specs.Sort.{ops_in, Blank, Light, Weighed, Room, Visits}

@@ -1,4 +1,3 @@
-use Prim.Native.Nat.{◌-◌}
 use Rattle.mapper.proofs.Tabling.{forget_turn, forget_end}
 use Rattle.mapper.proofs.mapping.forget.Goals as goal
 

@@ -1,5 +1,4 @@
 use native.Mathlib.Omega.{arith}
-use Prim.Native.Nat.{◌-◌}
 use Rattle.mapper.specs.Run.{RunOf}
 use Rattle.mapper.proofs.Runs.{opening_line, run_start, run_none, run_executable, run_turn, run_end}
 use Rattle.mapper.proofs.mapping.run.Goals as goal

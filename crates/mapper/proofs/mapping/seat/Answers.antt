@@ -1,4 +1,3 @@
-use Prim.Native.Nat.{◌-◌}
 use Rattle.mapper.proofs.Tabling.{filling_turn, filling_end}
 use Rattle.mapper.proofs.mapping.seat.Goals as goal
 

@@ -1,4 +1,3 @@
-use Prim.Native.Nat.{◌-◌}
 use mathlib.Core.Path.{refl}
 use Rattle.mapper.proofs.Counting.{down_some, down_turn, down_end}
 use Rattle.mapper.proofs.readers.count_down.Goals as goal

@@ -1,4 +1,3 @@
-use Prim.Native.Nat.{◌-◌}
 use mathlib.Core.Path.{refl}
 use Rattle.mapper.proofs.Writing.{norring_turn, norring_end}
 use Rattle.mapper.proofs.text.put_nor.Goals as goal

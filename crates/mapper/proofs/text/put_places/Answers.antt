@@ -1,4 +1,3 @@
-use Prim.Native.Nat.{◌-◌}
 use Rattle.mapper.proofs.Writing.{placing_turn, placing_end}
 use Rattle.mapper.proofs.text.put_places.Goals as goal
 

@@ -1,4 +1,3 @@
-use Prim.Native.Nat.{◌-◌}
 use Rattle.netlist.proofs.Operands.{lower_turn, lower_stop, lower_end}
 use Rattle.order.proofs.limits.all_below.Goals as goal
 

@@ -1,4 +1,3 @@
-use Prim.Native.Nat.{◌-◌}
 use mathlib.Core.Path.{sym, ◌∙◌}
 use Rattle.order.proofs.Bounds.{checking_turn, checking_stop, checking_end}
 use Rattle.order.proofs.limits.gates_fit.Goals as goal

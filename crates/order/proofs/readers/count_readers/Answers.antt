@@ -1,5 +1,4 @@
 use native.Mathlib.Omega.{arith}
-use Prim.Native.Nat.{◌-◌}
 use Rattle.order.proofs.Readership.{reading_start, reading_turn, reading_end, operands_placed}
 use Rattle.order.proofs.readers.count_readers.Goals as goal
 

@@ -1,5 +1,4 @@
 use native.Mathlib.Omega.{arith}
-use Prim.Native.Nat.{◌-◌}
 use mathlib.Core.Path.{refl}
 use Rattle.order.proofs.Counting.{up_small, up_turn, up_end}
 use Rattle.order.proofs.readers.count_up.Goals as goal

@@ -1,4 +1,3 @@
-use Prim.Native.Nat.{◌-◌}
 use Rattle.order.proofs.Walking.{rooting_turn, rooting_end}
 use Rattle.order.proofs.visit.visit_roots.Goals as goal
 

@@ -1,5 +1,4 @@
 use mathlib.Core.Path.{sym, ◌∙◌}
-use Prim.Native.Nat.{◌-◌}
 use Rattle.rules.specs.Weight.{weight_in}
 use Rattle.order.proofs.Sorting.{place_stop, place_more, place_end}
 use Rattle.std.proofs.Common.{rules}

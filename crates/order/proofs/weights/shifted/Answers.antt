@@ -1,5 +1,4 @@
 use mathlib.Core.Path.{◌∙◌}
-use Prim.Native.Nat.{◌-◌}
 use lib.ListN.{length-set}
 use Rattle.order.proofs.Sorting.{shift_turn}
 use Rattle.std.proofs.Common.{rules}

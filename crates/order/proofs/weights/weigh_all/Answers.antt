@@ -1,4 +1,3 @@
-use Prim.Native.Nat.{◌-◌}
 use Rattle.order.proofs.Weighted.{weighting_start, weighting_turn, weighting_end}
 use Rattle.order.proofs.weights.weigh_all.Goals as goal
 

@@ -1,4 +1,3 @@
-use Prim.Native.Nat.{◌-◌}
 use Rattle.order.proofs.Sorting.{peaking_none, peaking_start, peaking_turn, peaking_end}
 use Rattle.std.proofs.Common.{rules}
 use Rattle.order.proofs.weights.weight_of.Goals as goal

@@ -1,4 +1,3 @@
-use Prim.Native.Nat.{◌-◌}
 use Rattle.mapper.proofs.Cellwise.{seating_start, seating_turn}
 use Rattle.mapper.proofs.cells.Cells.first.Goals as goal
 

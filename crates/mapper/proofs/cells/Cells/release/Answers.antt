@@ -1,4 +1,3 @@
-use Prim.Native.Nat.{◌-◌}
 use mathlib.Core.Path.{sym, ◌∙◌}
 use Rattle.mapper.proofs.Cellwise.{release_takes, release_leaves, release_end}
 use Rattle.mapper.proofs.cells.Cells.release.Goals as goal

@@ -1,4 +1,3 @@
-use Prim.Native.Nat.{◌-◌}
 use Rattle.mapper.proofs.Cellwise.{renew_turn, renew_end}
 use Rattle.mapper.proofs.cells.Cells.set_spent.Goals as goal
 
