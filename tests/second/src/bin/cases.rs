@@ -5,16 +5,16 @@ mod lists;
 
 const HEADER: &str = "\
 -- Whole cases that tests/second computed, each proved by computing the definitions. Written by its program `cases`; not edited by hand.
-use Prim.Native.Nat.{ℕ, _-_}
-use mathlib.Core.Path.{_≡_, refl}
-use mathlib.Core.List.{List, [], _∷_, _++_}
+use Prim.Native.Nat.{ℕ, ◌-◌}
+use mathlib.Core.Path.{◌≡◌, refl}
+use mathlib.Core.List.{List, [], ◌∷◌, ◌++◌}
 use lib.ListN.{length, replicate}
-use Rattle·rules·specs.specs.Form.{form01}
-use Rattle·rules·specs.specs.Refusals.{Res, good, refused, refuse}
-use Rattle·rules·specs.specs.Netlist.{netlist_of}
-use Rattle·rules·specs.specs.Calls.{Outcome, map_outcome, evaluate_outcome, check_outcome, simulate_outcome}
-use Rattle·rules·specs.specs.Calls.{rowmap_output, rowcheck_output, tail_outcome, frame_outcome, place_outcome}
-use Rattle·rules·specs.specs.Texts.{chars}
+use Rattle.rules.specs.Form.{form01}
+use Rattle.rules.specs.Refusals.{Res, good, refused, refuse}
+use Rattle.rules.specs.Netlist.{netlist_of}
+use Rattle.rules.specs.Calls.{Outcome, map_outcome, evaluate_outcome, check_outcome, simulate_outcome}
+use Rattle.rules.specs.Calls.{rowmap_output, rowcheck_output, tail_outcome, frame_outcome, place_outcome}
+use Rattle.rules.specs.Texts.{chars}
 
 -- an answer with the bytes of the buffer or the row after it, or a refusal that leaves them
 abbrev pub gives : ℕ → List ℕ → Outcome
@@ -30,7 +30,7 @@ in_buffer text size = gives (length text) (text ++ replicate (size - length text
 -- a refusal's number, 0 where there is none
 unfoldable pub number : {A : Type 0} → Res A → ℕ
 number (good a) = 0
-number (refused r) = r .number
+number (refused r) = r.number
 ";
 
 /// A kind of case: its name, what the proof unfolds, and the equations.
@@ -66,11 +66,11 @@ impl Kind {
     /// One claim, with a part for each case.
     fn print(&self) {
         let name = self.name;
-        println!("\npub {name}-cases :");
+        println!("\npub {name}_cases :");
         println!("    {}", self.equations.join("\n    × "));
         println!("unfolding chars {}", self.unfolding);
         let proofs = vec!["refl"; self.equations.len()];
-        println!("{name}-cases = ({})", proofs.join(", "));
+        println!("{name}_cases = ({})", proofs.join(", "));
     }
 }
 
