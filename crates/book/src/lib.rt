@@ -20,7 +20,7 @@ pub struct Book {
 }
 
 // What an instruction makes of a book: the refusal, number 0 where there is none, beside the book afterwards.
-#[derive(Drop)]
+#[derive(Clone, Copy)]
 pub struct Outcome {
     pub refusal: Refusal,
     pub book: Book,

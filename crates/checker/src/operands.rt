@@ -7,7 +7,7 @@ ghost use Rattle.index.specs.Chains.{key_of};
 ghost use Rattle.checker.specs.Operands.{four_of, list_of, insert_four, operands_of, low_cell};
 
 // At most four signals, lowest first; 65535 where there is none.
-#[derive(Drop)]
+#[derive(Clone, Copy)]
 pub struct Four {
     pub a: u16,
     pub b: u16,
@@ -16,7 +16,7 @@ pub struct Four {
 }
 
 // The operands of a NOR line, and whether each operand cell holds a signal.
-#[derive(Drop)]
+#[derive(Clone, Copy)]
 pub struct Operands {
     pub all: bool,
     pub four: Four,

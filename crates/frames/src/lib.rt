@@ -9,7 +9,7 @@ ghost use Rattle.frames.specs.Reader.{spot_in, at_start, gives, spot, moved, pie
 use lines::Line;
 
 // The text and the place of the next frame.
-#[derive(Drop)]
+#[derive(Clone, Copy)]
 pub struct Frames<'a> {
     pub text: &'a [u8],
     pub at: usize,
@@ -57,7 +57,7 @@ pub fn next<'s, 'a>(r: &'s mut Frames<'a>) -> &'a [u8]
 }
 
 // The width of the frame at a place (0 where none stands) and the place after it.
-#[derive(Drop)]
+#[derive(Clone, Copy)]
 pub struct Piece {
     pub width: usize,
     pub next: usize,

@@ -5,14 +5,14 @@
 ghost use Rattle.std.specs.Prelude.{◌≡◌, min};
 ghost use Rattle.index.specs.Chains.{digit_at, key_of, zeros, chained, follows, found_in, again_in, twice_in, remainder_of};
 
-#[derive(Drop)]
+#[derive(Clone, Copy)]
 pub enum Found {
     At(usize),
     Nothing,
 }
 
 // The first link for each remainder, and the link after each place.
-#[derive(Drop)]
+#[derive(Clone, Copy)]
 pub struct Chains {
     pub heads: [u16; 1024],
     pub next: [u16; 512],

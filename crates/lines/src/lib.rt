@@ -11,7 +11,7 @@ use rules::{Answer, Refusal};
 pub mod write;
 
 // How the line at a place reads: so many digits with the line feed right after them, or the refusal.
-#[derive(Drop)]
+#[derive(Clone, Copy)]
 pub enum Line {
     Frame(usize),
     Refused(Refusal),

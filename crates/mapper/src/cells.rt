@@ -16,7 +16,7 @@ const SPENT: u8 = 1;
 const KEEPS: u8 = 2;
 
 // The mapping state. No cell of the row below next is ready. The text so far ends at the place at, after so many lines.
-#[derive(Drop)]
+#[derive(Clone, Copy)]
 pub struct Cells {
     pub held: [u8; 256],
     pub row: usize,

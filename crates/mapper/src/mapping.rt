@@ -13,7 +13,7 @@ use netlist::Netlist;
 use slices::{at8, at16, put8};
 
 // The text's length and its number of lines, or no room in the row.
-#[derive(Drop)]
+#[derive(Clone, Copy)]
 pub enum Outcome {
     Fits { at: usize, lines: usize },
     NoRoom,

@@ -30,7 +30,7 @@ pub struct Netlist {
 }
 
 // What reading answers: the refusal, number 0 where there is none, beside the netlist and the place after its last output line.
-#[derive(Drop)]
+#[derive(Clone, Copy)]
 pub struct Reading {
     pub refusal: Refusal,
     pub tail: usize,

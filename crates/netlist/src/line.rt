@@ -10,7 +10,7 @@ use lines::Line;
 use rules::{Answer, Refusal};
 
 // A head's numbers, or the refusal.
-#[derive(Drop)]
+#[derive(Clone, Copy)]
 pub enum Head {
     Of {
         inputs: usize,

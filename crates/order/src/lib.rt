@@ -18,7 +18,7 @@ mod visit;
 mod weights;
 
 // The first count of seq are the gates in the order of their execution, the others 0. left counts each signal's readers, and the outputs.
-#[derive(Drop)]
+#[derive(Clone, Copy)]
 pub struct Plan {
     pub count: usize,
     pub seq: [u16; 576],

@@ -8,7 +8,7 @@ ghost use Rattle.row.specs.Runs.{operands_at, lower, written_of, run_at};
 use crate::{Entry, frames};
 
 // What the operands of a NOR give, and the place of the next line.
-#[derive(Drop)]
+#[derive(Clone, Copy)]
 struct Operands {
     value: u8,
     next: usize,

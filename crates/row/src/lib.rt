@@ -14,7 +14,7 @@ mod device;
 mod frames;
 
 // A sequence that was read: its numbers, where its first instruction's line begins, and where its first place's line begins.
-#[derive(Drop)]
+#[derive(Clone, Copy)]
 pub struct Head {
     pub row: usize,
     pub inputs: usize,
@@ -25,14 +25,14 @@ pub struct Head {
 }
 
 // What reading a text answers.
-#[derive(Drop)]
+#[derive(Clone, Copy)]
 pub enum Reading {
     Sequence(Head),
     Refused(Refusal),
 }
 
 // What stands at a place of an instruction's line: the cell whose digits stand there, or the line's end.
-#[derive(Drop)]
+#[derive(Clone, Copy)]
 pub enum Entry {
     Cell(usize),
     End,

@@ -8,7 +8,7 @@ use lines::Line;
 use rules::{Answer, Refusal};
 
 // The job line: the row that it asks for, or its refusal.
-#[derive(Drop)]
+#[derive(Clone, Copy)]
 pub enum Job {
     Row(usize),
     Refused(Refusal),
