@@ -52,10 +52,10 @@ evaluates text ins out N e b h =
         → delivered (good vs) out ≡ record { answer = good (length N.outputs); lent = vs ++ drop (length N.outputs) out }
     fills vs l = rw (l, le-ltb (length out) (length N.outputs) h)
 
-get_d_map : (f : ℕ → ℕ) (l : List ℕ) (k : ℕ) → k < length l → get_or (map f l) k 0 ≡ f (get_or l k 0)
-get_d_map f [] k h = absurd (omega arith)
-get_d_map f (a ∷ l) zero h = refl
-get_d_map f (a ∷ l) (suc k) h = get_d_map f l k (omega arith)
+get_or-map : (f : ℕ → ℕ) (l : List ℕ) (k : ℕ) → k < length l → get_or (map f l) k 0 ≡ f (get_or l k 0)
+get_or-map f [] k h = absurd (omega arith)
+get_or-map f (a ∷ l) zero h = refl
+get_or-map f (a ∷ l) (suc k) h = get_or-map f l k (omega arith)
 
 -- the first bytes of the buffer are the outputs' values
 pub output_at : (N : Netlist) (ins rest : List ℕ) (k : ℕ) → k < length N.outputs
@@ -63,7 +63,7 @@ pub output_at : (N : Netlist) (ins rest : List ℕ) (k : ℕ) → k < length N.o
 unfolding output_values
 output_at N ins rest k h =
     get_or-append (map (λ o. get_or (values N ins) o 0) N.outputs) rest 0 k (rw (length-map N.outputs (λ o. get_or (values N ins) o 0)) h)
-    ∙ get_d_map (λ o. get_or (values N ins) o 0) N.outputs k h
+    ∙ get_or-map (λ o. get_or (values N ins) o 0) N.outputs k h
 
 -- ---- bits
 

@@ -78,6 +78,7 @@ fn digits_at(text: &[u8], at: usize) -> usize
 }
 
 // The line at a place: 2 at the text's end, 1 where the line breaks the rule for lines.
+#[tactic(auto, using(crate::proofs::Laws::line_long))]
 pub fn read_line(text: &[u8], at: usize) -> Line
     ensures { result ≡ line_at text.now at }
 {

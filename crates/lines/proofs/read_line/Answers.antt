@@ -1,5 +1,6 @@
 use mathlib.Core.Path.{refl}
-use Rattle.lines.proofs.Laws.{line_past, line_open, line_unfed, line_odd, line_empty, line_long, line_good}
+use Rattle.std.proofs.Common.{rules}
+use Rattle.lines.proofs.Laws.{line_past, line_open, line_unfed, line_odd, line_empty, line_good}
 use Rattle.lines.proofs.read_line.Goals as goal
 
 pub returns-then-text-at : goal.returns-then-text-at
@@ -17,8 +18,5 @@ returns-then-n-ne0 c = line_odd _ _ _ c.if-text-at.false c.digits_at-n.ensures _
 pub returns-then-n-lt2 : goal.returns-then-n-lt2
 returns-then-n-lt2 c = line_empty _ _ _ c.if-text-at.false c.digits_at-n.ensures _ refl c.if-text-at-ne10.false c.if-n-ne0.false c.if-n-lt2.true
 
-pub returns-then-n-gt514 : goal.returns-then-n-gt514
-returns-then-n-gt514 c = line_long _ _ _ c.if-text-at.false c.digits_at-n.ensures _ refl c.if-text-at-ne10.false c.if-n-ne0.false c.if-n-lt2.false c.if-n-gt514.true
-
 pub returns : goal.returns
-returns c = line_good _ _ _ c.if-text-at.false c.digits_at-n.ensures _ refl c.if-text-at-ne10.false c.if-n-ne0.false c.if-n-lt2.false c.if-n-gt514.false
+returns c = line_good _ _ _ c.if-text-at.false c.digits_at-n.ensures _ refl c.if-text-at-ne10.false c.if-n-ne0.false c.if-n-lt2.false (search rules)
