@@ -112,6 +112,14 @@ cycles_long : (n : ℕ) → 7 ≡ length (cycles_line n)
 unfolding cycles_line written bytes_of
 cycles_long n = refl
 
+-- an input longer than the program holds: the line that is printed, and its length
+pub long_output : (input : List ℕ) → 65536 < length input → rowcheck_output input ≡ refusal_line (record { number = 1 })
+unfolding held printed pick
+long_output input h = rw (output_is input, lt-ltb 65536 (length input) h)
+
+pub long_length : (input : List ℕ) → 65536 < length input → 5 ≡ length (rowcheck_output input)
+long_length input h = refusal_long (record { number = 1 }) ∙ ap length (sym (long_output input h))
+
 module _ (input out out' : List ℕ) where
   abbrev pub Prints : ℕ → Type 0
   Prints k = (k ≡ length (rowcheck_output input)) × (out' ≡ sets out 0 (rowcheck_output input))
@@ -120,10 +128,7 @@ module _ (input out out' : List ℕ) where
   prints k l z n e = (rw z n, rw z e)
 
   pub prints_long : 65536 < length input → out' ≡ sets out 0 (refusal_line (record { number = 1 })) → Prints 5
-  unfolding held printed pick
-  prints_long h e =
-      let r : Refusal = record { number = 1 } in
-      prints 5 (refusal_line r) (rw (output_is input, lt-ltb 65536 (length input) h)) (refusal_long r) e
+  prints_long h e = (long_length input h, rw (long_output input h) e)
 
   module _ (short : length input ≤ 65536) (a : Answer) (answers : meaning a ≡ checking_answer form01 input) where
     answer_is : rowcheck_output input ≡ printed cycles_line (meaning a)

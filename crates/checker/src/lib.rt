@@ -45,6 +45,7 @@ pub fn check_after(input: &[u8]) -> Answer
 }
 
 // The checking program: what it prints fills the first bytes of the lent buffer, and the answer is its length. A longer input than 65,536 bytes prints 1F01.
+#[tactic(auto, using(crate::proofs::Calling::long_output, crate::proofs::Calling::long_length))]
 pub fn program(input: &[u8], out: &mut [u8]) -> usize
     ensures { (result ≡ length (rowcheck_output input.now)) × (out.new ≡ sets out.old 0 (rowcheck_output input.now)) }
 {

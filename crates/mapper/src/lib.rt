@@ -31,6 +31,7 @@ fn no_text() -> [u8; 16384]
 }
 
 // The instructions and the places of a netlist's sequence, written into a buffer.
+#[tactic(auto, using(crate::proofs::Bodies::body_no_row), unfolding(crate::specs::Whole::BodyOf))]
 fn put_body(n: Netlist, row: usize, buffer: &mut [u8]) -> Outcome
     requires { WellFlat n × (row ≤ 256) }
     ensures { BodyOf n row buffer.old buffer.new result }

@@ -25,6 +25,7 @@ fn refusal(j: Job) -> Refusal
 }
 
 // The job line at the front of an input.
+#[tactic(auto, using(crate::proofs::Jobs::job_other))]
 fn read_job(input: &[u8]) -> Job
     ensures { result ≡ job_at input.now }
 {
