@@ -8,6 +8,7 @@ use lib.Dec.{eqb, leb}
 use borrow.Author.Tests.{eqb-true, eq-eqb, le-ltb}
 use lib.ListN.{get_or, length, take, drop, length-map, get_or-append}
 use lib.Seq.{length-take-le}
+use Rattle.std.proofs.lemmas.List.{get_or-map}
 use Rattle.rules.specs.Basics.{all}
 use Rattle.rules.specs.Form.{form01}
 use Rattle.rules.specs.Refusals.{Res, good, ◌>>=◌, ◌>>◌, require}
@@ -52,18 +53,13 @@ evaluates text ins out N e b h =
         → delivered (good vs) out ≡ record { answer = good (length N.outputs); lent = vs ++ drop (length N.outputs) out }
     fills vs l = rw (l, le-ltb (length out) (length N.outputs) h)
 
-get_or-map : (f : ℕ → ℕ) (l : List ℕ) (k : ℕ) → k < length l → get_or (map f l) k 0 ≡ f (get_or l k 0)
-get_or-map f [] k h = absurd (omega arith)
-get_or-map f (a ∷ l) zero h = refl
-get_or-map f (a ∷ l) (suc k) h = get_or-map f l k (omega arith)
-
 -- the first bytes of the buffer are the outputs' values
 pub output_at : (N : Netlist) (ins rest : List ℕ) (k : ℕ) → k < length N.outputs
     → get_or (output_values N ins ++ rest) k 0 ≡ get_or (values N ins) (get_or N.outputs k 0) 0
 unfolding output_values
 output_at N ins rest k h =
     get_or-append (map (λ o. get_or (values N ins) o 0) N.outputs) rest 0 k (rw (length-map N.outputs (λ o. get_or (values N ins) o 0)) h)
-    ∙ get_or-map (λ o. get_or (values N ins) o 0) N.outputs k h
+    ∙ get_or-map (λ o. get_or (values N ins) o 0) N.outputs k 0 0 h
 
 -- ---- bits
 

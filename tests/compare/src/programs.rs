@@ -12,7 +12,7 @@ fn run(name: &str, input: &[u8]) -> Vec<u8> {
         .stdout(Stdio::piped())
         .spawn();
     let Ok(mut child) = started else {
-        println!("{name} is not built: run rt run in its folder first");
+        println!("{name} is not built: run 'rt run' in crates/{name} first");
         exit(1);
     };
     if let Some(mut stdin) = child.stdin.take() {

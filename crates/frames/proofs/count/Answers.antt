@@ -1,3 +1,4 @@
+-- `frames::count` meets its contract: the frames before the place are counted, and the place moves on within the text.
 use Rattle.frames.proofs.Counting.{counted_start, counted_less, counted_turn, counted_end}
 use Rattle.frames.proofs.count.Goals as goal
 

@@ -1,3 +1,4 @@
+-- `frames::frame_at` meets its contract: a good line's digits stand inside the text; else the part is what stands at the text's end, nothing.
 use native.Mathlib.Omega.{arith}
 use Rattle.frames.proofs.Laws.{frame_inside, frame_there, frame_end, start_there, start_end, stands}
 use Rattle.frames.proofs.frame_at.Goals as goal

@@ -1,3 +1,4 @@
+-- `frames::piece_at` meets its contract: the count of the part that `next` gives and the reader's place afterwards make the result.
 use Rattle.std.proofs.Common.{ap}
 use Rattle.frames.specs.Reader.{piece_at}
 use Rattle.frames.proofs.piece_at.Goals as goal

@@ -1,3 +1,4 @@
+-- `frames::place_after` meets its contract: past the line feed, which stands inside the text; else the same place.
 use native.Mathlib.Omega.{arith}
 use Rattle.frames.proofs.Laws.{frame_inside, place_past, place_stays}
 use Rattle.frames.proofs.place_after.Goals as goal

@@ -1,8 +1,8 @@
+-- The visit meets its contract: the measure is the signal's number, which falls at each call.
 use Prim.Native.Nat.{◌-◌}
 use Rattle.order.proofs.Walking.{Walking}
 use Rattle.order.proofs.visit.+visit.Given as goal
 
--- the signal's number falls at each call
 abbrev pub decreases-visit : goal.decreases-visit
 decreases-visit l = l.s
 

@@ -29,7 +29,9 @@ pub overflow_sub-n-then-kind-eq-KIND_NOR : goal.overflow_sub-n-then-kind-eq-KIND
 overflow_sub-n-then-kind-eq-KIND_NOR c = let f = frame_fits _ _ _ (sym c.read_line-l.ensures ∙ c.in-Frame.is) in omega (arith, f.least)
 
 pub nor_line-requires : goal.nor_line-requires
-nor_line-requires c = let e = sym c.read_line-l.ensures ∙ c.in-Frame.is in let f = frame_fits _ _ _ e in (omega (arith, f.inside, f.least), line_digits _ _ _ e)
+nor_line-requires c = let e = sym c.read_line-l.ensures ∙ c.in-Frame.is in
+    let f = frame_fits _ _ _ e in
+    (omega (arith, f.inside, f.least), line_digits _ _ _ e)
 
 pub returns-then-kind-eq-KIND_NOR : goal.returns-then-kind-eq-KIND_NOR
 returns-then-kind-eq-KIND_NOR c = c.nor_line.ensures ∙ instruction_nor _ _ _ _ _ (sym c.read_line-l.ensures ∙ c.in-Frame.is) c.byte_at-kind.ensures c.if-kind-eq-KIND_SET.false c.if-kind-eq-KIND_NOR.true
