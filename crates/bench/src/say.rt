@@ -1,36 +1,20 @@
 // One line a case: its name, and what came of it.
-use rules::Answer;
-
-pub fn text(t: &[u8]) {
-    io::write_all(1, t);
-}
-
-pub fn number(n: usize) {
-    io::print_decimal(1, n as u64);
-}
+use rules::Refusal;
+use std::io;
 
 // A name, then the value or the refusal's number.
-pub fn answer(name: &[u8], a: Answer) {
-    text(name);
+pub fn answer(rt: &impl Print, name: &str, a: Result<usize, Refusal>) -> io::Result<()> {
     match a {
-        Answer::Given(n) => {
-            text(b": answered ");
-            number(n);
-        }
-        Answer::Refused(r) => {
-            text(b": refused ");
-            number(r.number as usize);
-        }
+        Ok(n) => print!(rt; "{name}: answered {n}"),
+        Err(r) => print!(rt; "{name}: refused {}", r.number()),
     }
 }
 
 // The bytes of a row or a buffer, each 0 to 9, and the end of the line.
-pub fn bytes(l: &[u8]) {
-    text(b", ");
-    let mut i = 0;
-    while i < l.len() {
-        number((l[i] % 10) as usize);
-        i += 1;
+pub fn bytes(rt: &impl Print, l: &[u8]) -> io::Result<()> {
+    print!(rt; ", ")?;
+    for &b in l {
+        print!(rt; "{}", b % 10)?;
     }
-    text(b"\n");
+    println!(rt; "")
 }

@@ -1,74 +1,116 @@
 -- What the step answers is what the definition of the step says, test by test.
-use Prim.Native.Nat.{ℕ, zero, suc, ◌-◌, ◌/◌, min}
-use native.Mathlib.Omega.{arith}
-use mathlib.Core.Path.{◌≡◌, refl, sym, ◌∙◌}
-use mathlib.Core.Bool.{Bool, true, false}
-use mathlib.Core.List.{List}
-use lib.Dec.{ltb}
-use lib.ListN.{get_or, length, take, set}
-use borrow.Author.Tests.{le-ltb, ne_eqb}
+use Rattle.std.proofs.Common.{ℕ, ◌-◌, ◌/◌, ◌<◌, ◌≤◌, min, ◌≡◌, refl, ap, ◌∙◌, true, false, List, [], ltb, get_or, length, take, set, length-set, lt-ltb, le-ltb, Option, Some, None, Result, Ok, Err}
+use Rattle.rules.specs.declared.Refusal.{Refusal}
+use Rattle.rules.specs.declared.Refusal.TheVariants.{InputWritten, NotReady, NoGate}
+use Rattle.std.proofs.Math.Option as maybe
 use Rattle.rules.specs.Basics.{pick, any, set_all}
-use Rattle.rules.specs.Refusals.{good, refuse, ◌>>=◌, or_refuse}
-use Rattle.rules.specs.Book.{Cell, ready, holds}
+use Rattle.rules.specs.Refusals.{Res, good, refused, ◌>>=◌, or_refuse, number_of}
+use Rattle.rules.specs.Sequence.{Set, Nor}
+use Rattle.rules.specs.Book as rules
+use Rattle.rules.specs.Book.{unknown, ready, holds}
+use Rattle.rules.proofs.Lists.{length-set_all}
 use Rattle.lines.specs.Line.{byte_at, bytes_from}
 use Rattle.instruction.specs.declared.Instruction.{Instruction}
 use Rattle.instruction.specs.Line.{instruction_in}
+use Rattle.book.specs.declared.Cell.{Cell}
+use Rattle.book.specs.declared.Cell.TheVariants.{Unknown, Ready, Holds}
 use Rattle.book.specs.declared.Book.{Book}
-use Rattle.book.specs.Cells.{cell_of, said, kept, book_in, book_of}
-use Rattle.book.specs.Steps.{gate_in, made_with, step_with, standing_in, outcome_of, stepped_of, nor_verdict}
-use Rattle.book.proofs.Laws.{said_at}
+use Rattle.book.specs.Cells.{cell_in, book_in, book_of}
+use Rattle.book.specs.Steps.{gate_in, made_with, step_with, standing_in, stepped_of, after_of, left_by, Handed, Stepped}
+use Rattle.book.proofs.Laws.{book_at, book_says}
 
--- a book of the same row with other numbers
-abbrev pub with_cells : Book → List ℕ → Book
-with_cells b cells = record { row = b.row; inputs = b.inputs; cells = cells }
+-- what a line leaves of the lent book is what the step by value hands back
+module _ (b after : Book) (told : Res (List rules.Cell)) (r : Result (Unit {0}) Refusal) (s : Stepped b told r after) where
+  handed : r ≡ Ok tt → Handed b told (Ok after)
+  unfolding left_by
+  handed e = record { says = rw e at s.says; leaves = s.leaves }
 
-module _ (b : Book) (text : List ℕ) (i : Instruction) (gate : ℕ) where
-  module _ (is : i.set ≡ true) (k : ℕ) (e : k ≡ min i.cells ((length text - i.first) / 2)) (t : Bool)
-      (asked : t ≡ any (λ c. ltb c b.inputs) (bytes_from text i.first k)) where
-    pub set_refused : t ≡ true → record { refusal = record { number = 13 }; book = b } ≡ stepped_of b text i gate
-    unfolding stepped_of outcome_of step_with instruction_in standing_in pick
-    set_refused h = rw (is, ← e, ← asked, h)
+  dropped : (x : Refusal) → r ≡ Err x → Handed b told (Err x)
+  unfolding left_by after_of
+  dropped x e = let z : refused (number_of x) ≡ told = rw e at s.says in record { says = z; leaves = rw (← z) }
 
-    pub set_good : (cells : List ℕ) → t ≡ false → cells ≡ kept b.row (set_all ready (bytes_from text i.first k) (said b.row b.cells)) b.cells
-        → record { refusal = record { number = 0 }; book = with_cells b cells } ≡ stepped_of b text i gate
-    unfolding stepped_of outcome_of step_with instruction_in standing_in pick book_in book_of
-    set_good cells h c = rw (is, ← e, ← asked, h, c)
+-- a whole instruction, by whether it is a set line
+module _ (b : Book) (text : List ℕ) (i : Instruction) (gate : Option ℕ) (r : Result (Unit {0}) Refusal) (after : Book) where
+  module _ (is : i.set ≡ true) (k : ℕ) (e : k ≡ min i.cells ((length text - i.first) / 2))
+      (s : Stepped b (step_with b.inputs (gate_in None) (Set (bytes_from text i.first k)) (book_in b)) r after) where
+    by_set : Stepped b (stepped_of b text i (gate_in gate)) r after
+    unfolding stepped_of instruction_in standing_in step_with pick
+    by_set = rw (is, ← e) s
 
--- by whether an input cell is written, by the written cell's number and the gate's
-nor_refused_by : (b : Book) (t : Bool) (code gate : ℕ) (f : ℕ → List Cell)
-    → (nor_verdict t code gate ≡ 0 → ⊥)
-    → record { refusal = record { number = nor_verdict t code gate }; book = b }
-    ≡ outcome_of b (pick t (refuse 13) (made_with (gate_in gate) (cell_of code) >>= λ g. good (f g)))
-unfolding outcome_of made_with gate_in cell_of pick ◌>>=◌ or_refuse nor_verdict
-nor_refused_by b true code gate f h = refl
-nor_refused_by b false zero gate f h = refl
-nor_refused_by b false (suc zero) zero f h = refl
-nor_refused_by b false (suc zero) (suc zero) f h = refl
-nor_refused_by b false (suc zero) (suc (suc g)) f h = absurd (h (rw (le-ltb (suc (suc g)) 2 (omega arith))))
-nor_refused_by b false (suc (suc s)) gate f h = rw (ne_eqb (suc (suc s)) 1 (λ e. omega (arith, e)))
+    pub set_handed : r ≡ Ok tt → Handed b (stepped_of b text i (gate_in gate)) (Ok after)
+    set_handed = handed b after _ r by_set
 
-nor_good_by : (b : Book) (t : Bool) (code gate : ℕ) (f : Cell → List Cell) → nor_verdict t code gate ≡ 0
-    → record { refusal = record { number = 0 }; book = book_of b (f (cell_of gate)) }
-    ≡ outcome_of b (pick t (refuse 13) (made_with (gate_in gate) (cell_of code) >>= λ g. good (f (holds g))))
-unfolding outcome_of made_with gate_in cell_of pick ◌>>=◌ or_refuse nor_verdict
-nor_good_by b true code gate f h = absurd (omega (arith, h))
-nor_good_by b false zero gate f h = absurd (omega (arith, h))
-nor_good_by b false (suc zero) zero f h = absurd (omega (arith, h))
-nor_good_by b false (suc zero) (suc zero) f h = absurd (omega (arith, h))
-nor_good_by b false (suc zero) (suc (suc g)) f h = refl
-nor_good_by b false (suc (suc s)) gate f h = absurd (omega (arith, rw (ne_eqb (suc (suc s)) 1 (λ e. omega (arith, e))) at h))
+    pub set_dropped : (x : Refusal) → r ≡ Err x → Handed b (stepped_of b text i (gate_in gate)) (Err x)
+    set_dropped = dropped b after _ r by_set
 
-module _ (b : Book) (text : List ℕ) (i : Instruction) (gate : ℕ) (is : i.set ≡ false) (w : ℕ) (e : w ≡ byte_at text i.first) (n : ℕ)
-    (judged : n ≡ nor_verdict (ltb w b.inputs) (get_or (take b.row b.cells) w 0) gate) where
-  pub nor_refused : (n ≡ 0 → ⊥) → record { refusal = record { number = n }; book = b } ≡ stepped_of b text i gate
-  unfolding stepped_of step_with instruction_in standing_in pick book_in
-  nor_refused h =
-      rw (is, ← e, said_at b.row b.cells w, judged)
-      (nor_refused_by b (ltb w b.inputs) (get_or (take b.row b.cells) w 0) gate (λ g. set (said b.row b.cells) w (holds g)) (λ z. h (judged ∙ z)))
+  module _ (is : i.set ≡ false) (w : ℕ) (e : w ≡ byte_at text i.first) (s : Stepped b (step_with b.inputs (gate_in gate) (Nor w []) (book_in b)) r after) where
+    by_nor : Stepped b (stepped_of b text i (gate_in gate)) r after
+    unfolding stepped_of instruction_in standing_in step_with pick
+    by_nor = rw (is, ← e) s
 
-  pub nor_good : (cells : List ℕ) → n ≡ 0 → cells ≡ kept b.row (set (said b.row b.cells) w (cell_of gate)) b.cells
-      → record { refusal = record { number = 0 }; book = with_cells b cells } ≡ stepped_of b text i gate
-  unfolding stepped_of step_with instruction_in standing_in pick book_in book_of
-  nor_good cells h c =
-      rw (is, ← e, said_at b.row b.cells w, c)
-      (nor_good_by b (ltb w b.inputs) (get_or (take b.row b.cells) w 0) gate (λ x. set (said b.row b.cells) w x) (sym judged ∙ h))
+    pub nor_handed : r ≡ Ok tt → Handed b (stepped_of b text i (gate_in gate)) (Ok after)
+    nor_handed = handed b after _ r by_nor
+
+    pub nor_dropped : (x : Refusal) → r ≡ Err x → Handed b (stepped_of b text i (gate_in gate)) (Err x)
+    nor_dropped = dropped b after _ r by_nor
+
+-- a lent book, from what its step by value answers
+module _ (b : Book) (told : Res (List rules.Cell)) (r : Result Book Refusal) (h : Handed b told r) where
+  pub lent_passed : (after : Book) → r ≡ Ok after → Stepped b told (Ok tt) after
+  unfolding left_by
+  lent_passed after e = record { says = rw e at h.says; leaves = rw e at h.leaves }
+
+  pub lent_refused : (x : Refusal) → r ≡ Err x → Stepped b told (Err x) b
+  unfolding left_by
+  lent_refused x e = record { says = rw e at h.says; leaves = rw e at h.leaves }
+
+module _ (b : Book) where
+  -- a refusal leaves the book
+  refused_by : (x : Refusal) (told : Res (List rules.Cell)) → told ≡ refused (number_of x) → Stepped b told (Err x) b
+  unfolding after_of
+  refused_by x told e = record { says = rw e; leaves = rw e }
+
+  passed_by : (book : List rules.Cell) (told : Res (List rules.Cell)) (after : Book) → told ≡ good book → length book ≡ length (book_in b) → after ≡ book_of b book
+      → Stepped b told (Ok tt) after
+  unfolding after_of
+  passed_by book told after e l a = record { says = rw (e, a) (ap good (book_says b book l)); leaves = rw (e, a) }
+
+  module _ (cs : List ℕ) (gate : maybe.Option ℕ) where
+    pub set_refused : true ≡ any (λ c. ltb c b.inputs) cs → Stepped b (step_with b.inputs gate (Set cs) (book_in b)) (Err InputWritten) b
+    unfolding step_with pick
+    set_refused h = refused_by InputWritten _ (rw (← h))
+
+    pub set_passed : (after : Book) → false ≡ any (λ c. ltb c b.inputs) cs → after ≡ book_of b (set_all ready cs (book_in b))
+        → Stepped b (step_with b.inputs gate (Set cs) (book_in b)) (Ok tt) after
+    unfolding step_with pick
+    set_passed after h a = passed_by (set_all ready cs (book_in b)) _ after (rw (← h)) (length-set_all ready cs (book_in b)) a
+
+  module _ (w : ℕ) (os : List ℕ) (gate : Option ℕ) where
+    abbrev pub told : Res (List rules.Cell)
+    told = step_with b.inputs (gate_in gate) (Nor w os) (book_in b)
+
+    pub nor_written : (i : ℕ) → i ≡ w → i < b.inputs → Stepped b told (Err InputWritten) b
+    unfolding step_with pick
+    nor_written i e h = refused_by InputWritten _ (rw (← e, lt-ltb i b.inputs h))
+
+    module _ (i : ℕ) (e : i ≡ w) (low : b.inputs ≤ i) (c : Cell) (held : c ≡ get_or (take b.row b.cells) w Unknown) where
+      told_is : told ≡ (made_with (gate_in gate) (cell_in c) >>= λ g. good (set (book_in b) w (holds g)))
+      unfolding step_with pick
+      told_is = rw (rw e at (le-ltb i b.inputs low), book_at b w, ← held)
+
+      pub nor_unready : (c ≡ Ready → ⊥) → Stepped b told (Err NotReady) b
+      unfolding made_with cell_in ◌>>=◌
+      nor_unready h = refused_by NotReady _ (told_is ∙ go c h)
+        where
+          go : (d : Cell) → (d ≡ Ready → ⊥) → (made_with (gate_in gate) (cell_in d) >>= λ g. good (set (book_in b) w (holds g))) ≡ refused 14
+          go Unknown z = refl
+          go Ready z = absurd (z refl)
+          go (Holds s) z = refl
+
+      pub nor_none : c ≡ Ready → gate ≡ None → Stepped b told (Err NoGate) b
+      unfolding made_with cell_in gate_in ◌>>=◌ or_refuse
+      nor_none r n = refused_by NoGate _ (told_is ∙ rw (r, n))
+
+      pub nor_passed : (s : ℕ) (after : Book) → c ≡ Ready → gate ≡ Some s → after ≡ book_of b (set (book_in b) w (cell_in (Holds s))) → Stepped b told (Ok tt) after
+      unfolding made_with cell_in gate_in ◌>>=◌ or_refuse
+      nor_passed s after r n a = passed_by (set (book_in b) w (holds s)) _ after (told_is ∙ rw (r, n)) (length-set (book_in b) w (holds s)) a

@@ -1,157 +1,173 @@
--- Laws of a book's numbers: what they say of a row, one cell altered, the first book.
-use Prim.Native.Nat.{ℕ, zero, suc, ◌+◌, ◌-◌, ◌<◌, ◌≤◌, min}
-use native.Mathlib.Omega.{arith}
-use native.Mathlib.Numerals.{add-one, add-two}
+-- Laws of a book's cells: what they say of a row, one cell altered, the first book.
+use Rattle.std.proofs.Common.{ℕ, zero, suc, ◌+◌, ◌-◌, ◌*◌, ◌<◌, ◌≤◌, min, arith, add-one, ◌≡◌, refl, sym, ap, ◌∙◌, List, [], ◌∷◌, ◌++◌, map, append-nil, ltb, get_or, length, set, take, drop, take-append-drop, length-take, length-set, drop_of_length-le, drop-set-lt, take_at, drop_at, take_all}
 use native.Mathlib.Decide.{dec_lt}
-use mathlib.Core.Path.{◌≡◌, refl, sym, ap, ◌∙◌}
-use mathlib.Core.Bool.{true}
-use mathlib.Core.List.{List, [], ◌∷◌, ◌++◌, map, append-nil}
-use lib.Dec.{ltb}
-use lib.ListN.{get_or, length, set, take, drop, take-append-drop, length-take, length-map, length-set, drop_of_length-le, get_or-map, get_or-eq_default}
-use lib.Seq.{sets, set_out, take-set-lt, drop-set-lt, take_at, drop_at, take_all, get_or-take}
-use borrow.Author.Tests.{lt-ltb, le-ltb}
+use lib.ListN.{length-map, get_or-map}
+use lib.Seq.{sets, set_out, take-set-lt}
+use Rattle.std.proofs.lemmas.List.{map-set}
+use Rattle.std.specs.List.{list_any, range_with_len}
 use Rattle.rules.specs.Basics.{any, set_all, upto}
-use Rattle.rules.specs.Book.{Cell, unknown, ready, holds}
-use Rattle.book.specs.Cells.{cell_of, code_of, said, kept, blank_cells}
+use Rattle.lines.specs.Line.{byte_at, bytes_from}
+use Rattle.rules.specs.Book as rules
+use Rattle.rules.specs.Book.{unknown, ready, holds}
+use Rattle.rules.proofs.Lists.{length-set_all}
+use Rattle.book.specs.declared.Cell.{Cell}
+use Rattle.book.specs.declared.Cell.TheVariants.{Unknown, Ready, Holds}
+use Rattle.book.specs.declared.Book.{Book}
+use Rattle.book.specs.Cells.{cell_in, cell_of, book_in, book_of, blank_cells}
 
--- ---- numbers and what they say
+-- a book of the same row with other cells
+abbrev pub with_cells : Book → List Cell → Book
+with_cells b cells = record { row = b.row; inputs = b.inputs; cells = cells }
 
-pub code_cell : (n : ℕ) → code_of (cell_of n) ≡ n
-unfolding code_of cell_of
-code_cell zero = refl
-code_cell (suc zero) = refl
-code_cell (suc (suc s)) = refl
+-- ---- cells and what they say
 
-pub cell_code : (c : Cell) → cell_of (code_of c) ≡ c
-unfolding code_of cell_of
-cell_code unknown = refl
-cell_code ready = refl
-cell_code (holds s) = refl
+pub cell_same : (c : Cell) → cell_of (cell_in c) ≡ c
+unfolding cell_of cell_in
+cell_same Unknown = refl
+cell_same Ready = refl
+cell_same (Holds s) = refl
 
-codes_of : (l : List ℕ) → map code_of (map cell_of l) ≡ l
-codes_of [] = refl
-codes_of (n ∷ l) = rw (code_cell n, codes_of l)
+pub said_same : (c : rules.Cell) → cell_in (cell_of c) ≡ c
+unfolding cell_of cell_in
+said_same unknown = refl
+said_same ready = refl
+said_same (holds s) = refl
 
-pub cells_of : (l : List Cell) → map cell_of (map code_of l) ≡ l
-cells_of [] = refl
-cells_of (c ∷ l) = rw (cell_code c, cells_of l)
+pub cells_same : (l : List Cell) → map cell_of (map cell_in l) ≡ l
+cells_same [] = refl
+cells_same (c ∷ l) = rw (cell_same c, cells_same l)
 
-map-set : {A B : Type 0} (f : A → B) (l : List A) (i : ℕ) (a : A) → map f (set l i a) ≡ set (map f l) i (f a)
-map-set f [] zero a = refl
-map-set f [] (suc i) a = refl
-map-set f (b ∷ l) zero a = refl
-map-set f (b ∷ l) (suc i) a = ap (λ t. f b ∷ t) (map-set f l i a)
+pub saids_same : (l : List rules.Cell) → map cell_in (map cell_of l) ≡ l
+saids_same [] = refl
+saids_same (c ∷ l) = rw (said_same c, saids_same l)
 
--- ---- a row of numbers
+-- ---- a book and what it says
 
-pub kept_said : (row : ℕ) (cells : List ℕ) → kept row (said row cells) cells ≡ cells
-unfolding kept said
-kept_said row cells = rw (codes_of (take row cells)) (take-append-drop row cells)
+pub book_same : (b : Book) → book_of b (book_in b) ≡ b
+unfolding book_of book_in
+book_same b = ap (with_cells b) (rw (cells_same (take b.row b.cells)) (take-append-drop b.row b.cells))
 
-pub said_length : (row : ℕ) (cells : List ℕ) → length (said row cells) ≡ min row (length cells)
-unfolding said
-said_length row cells = length-map (take row cells) cell_of ∙ length-take row cells
+book_length : (b : Book) → length (book_in b) ≡ min b.row (length b.cells)
+unfolding book_in
+book_length b = length-map (take b.row b.cells) cell_in ∙ length-take b.row b.cells
 
-pub said_at : (row : ℕ) (cells : List ℕ) (c : ℕ) → get_or (said row cells) c unknown ≡ cell_of (get_or (take row cells) c 0)
-unfolding said cell_of
-said_at row cells c = get_or-map cell_of (take row cells) c 0
+pub book_at : (b : Book) (c : ℕ) → get_or (book_in b) c unknown ≡ cell_in (get_or (take b.row b.cells) c Unknown)
+unfolding book_in cell_in
+book_at b c = get_or-map cell_in (take b.row b.cells) c Unknown
 
--- a whole row written back says what was written, and the numbers past it stay
-module _ (row : ℕ) (book : List Cell) (cells : List ℕ) (fits : length book ≡ min row (length cells)) where
-  codes_length : length (map code_of book) ≡ min row (length cells)
-  codes_length = length-map book code_of ∙ fits
+-- a book that says something else of as many cells
+module _ (b : Book) (book : List rules.Cell) (fits : length book ≡ length (book_in b)) where
+  long : length (map cell_of book) ≡ min b.row (length b.cells)
+  long = length-map book cell_of ∙ fits ∙ book_length b
 
-  pub said_kept : said row (kept row book cells) ≡ book
-  unfolding said kept
-  said_kept = go (dec_lt (length cells) row)
+  -- where the row is longer than the cells none stand past it
+  none_past : length b.cells < b.row → drop b.row b.cells ≡ []
+  none_past h = drop_of_length-le b.cells {i = b.row} (omega arith)
+
+  pub book_says : book_in (book_of b book) ≡ book
+  unfolding book_in book_of
+  book_says = go (dec_lt (length b.cells) b.row)
     where
-      go : Dec (length cells < row) → map cell_of (take row (map code_of book ++ drop row cells)) ≡ book
+      go : Dec (length b.cells < b.row) → map cell_in (take b.row (map cell_of book ++ drop b.row b.cells)) ≡ book
       go (yes h) =
-          let z = codes_length in
-          let e : drop row cells ≡ [] = drop_of_length-le cells {i = row} (omega arith) in
-          let l : length (map code_of book) ≤ row = omega arith in
-          rw (e, append-nil (map code_of book), take_all row (map code_of book) l) (cells_of book)
-      go (no h) = let z = codes_length in rw (take_at (map code_of book) (drop row cells) row (omega arith)) (cells_of book)
+          let l : length (map cell_of book) ≤ b.row = omega (arith, long) in
+          rw (none_past h, append-nil (map cell_of book), take_all b.row (map cell_of book) l) (saids_same book)
+      go (no h) = rw (take_at (map cell_of book) (drop b.row b.cells) b.row (omega (arith, long))) (saids_same book)
 
-  pub drop-kept : drop row (kept row book cells) ≡ drop row cells
-  unfolding kept
-  drop-kept = go (dec_lt (length cells) row)
+  -- said once more, only the last counts
+  pub book_again : (more : List rules.Cell) → book_of (book_of b book) more ≡ book_of b more
+  unfolding book_of
+  book_again more = ap (λ d. with_cells b (map cell_of more ++ d)) (go (dec_lt (length b.cells) b.row))
     where
-      go : Dec (length cells < row) → drop row (map code_of book ++ drop row cells) ≡ drop row cells
+      go : Dec (length b.cells < b.row) → drop b.row (map cell_of book ++ drop b.row b.cells) ≡ drop b.row b.cells
       go (yes h) =
-          let z = codes_length in
-          let e : drop row cells ≡ [] = drop_of_length-le cells {i = row} (omega arith) in
-          let l : length (map code_of book) ≤ row = omega arith in
-          rw (e, append-nil (map code_of book)) (drop_of_length-le (map code_of book) l)
-      go (no h) = let z = codes_length in drop_at (map code_of book) (drop row cells) row (omega arith)
+          let l : length (map cell_of book) ≤ b.row = omega (arith, long) in
+          rw (none_past h, append-nil (map cell_of book)) (drop_of_length-le (map cell_of book) l)
+      go (no h) = drop_at (map cell_of book) (drop b.row b.cells) b.row (omega (arith, long))
 
 -- ---- one cell altered
 
-pub put_in : (cells : List ℕ) (row c v : ℕ) → c < row → set cells c v ≡ kept row (set (said row cells) c (cell_of v)) cells
-unfolding said kept
-put_in cells row c v h =
-    rw (← map-set cell_of (take row cells) c v, ← take-set-lt row cells c v h, codes_of (take row (set cells c v)), ← drop-set-lt row cells c v h)
-    (sym (take-append-drop row (set cells c v)))
+pub put_in : (b : Book) (i c : ℕ) (v : Cell) → i ≡ c → i < b.row → with_cells b (set b.cells i v) ≡ book_of b (set (book_in b) c (cell_in v))
+unfolding book_of book_in
+put_in b i c v e l =
+    let h : c < b.row = omega (arith, e) in
+    rw e
+    (ap (with_cells b) (sym (take-append-drop b.row (set b.cells c v)))
+    ∙ rw (← map-set cell_in (take b.row b.cells) c v, ← take-set-lt b.row b.cells c v h, cells_same (take b.row (set b.cells c v)), ← drop-set-lt b.row b.cells c v h))
 
-pub put_past : (cells : List ℕ) (row c v : ℕ) → row ≤ c → cells ≡ kept row (set (said row cells) c (cell_of v)) cells
-put_past cells row c v h =
-    let l : length (said row cells) ≤ c = omega (arith, said_length row cells) in
-    rw (set_out (said row cells) c (cell_of v) l) (sym (kept_said row cells))
+pub put_past : (b : Book) (i c : ℕ) (v : Cell) → i ≡ c → b.row ≤ i → b ≡ book_of b (set (book_in b) c (cell_in v))
+put_past b i c v e h = sym (ap (book_of b) (set_out (book_in b) c (cell_in v) (omega (arith, book_length b))) ∙ book_same b)
 
 -- ---- the cells of a set line, one after the other
 
-pub input_stop : (inputs c : ℕ) (l : List ℕ) → c < inputs → any (λ x. ltb x inputs) (c ∷ l) ≡ true
-unfolding any
-input_stop inputs c l h = rw (lt-ltb c inputs h)
+pub any_below : (text : List ℕ) (n k first : ℕ) → list_any (λ j. ltb (byte_at text (first + 2 * j)) n) (range_with_len 0 k) ≡ any (λ c. ltb c n) (bytes_from text first k)
+unfolding bytes_from
+any_below text n k first = let z : first + 2 * 0 ≡ first = omega arith in go k 0 ∙ rw z
+  where
+    go : (k a : ℕ) → list_any (λ j. ltb (byte_at text (first + 2 * j)) n) (range_with_len a k) ≡ any (λ c. ltb c n) (bytes_from text (first + 2 * a) k)
+    go zero a = refl
+    go (suc k) a = let z : first + 2 * a + 2 ≡ first + 2 * (a + 1) = omega arith in rw (z, ← go k (a + 1))
 
-pub input_turn : (inputs c : ℕ) (l : List ℕ) → inputs ≤ c → any (λ x. ltb x inputs) (c ∷ l) ≡ any (λ x. ltb x inputs) l
-unfolding any
-input_turn inputs c l h = rw (le-ltb c inputs h)
+set_all_next : {A : Type 0} (v : A) (text : List ℕ) (j first : ℕ) (l : List A)
+    → set_all v (bytes_from text first (suc j)) l ≡ set (set_all v (bytes_from text first j) l) (byte_at text (first + 2 * j)) v
+unfolding set_all bytes_from
+set_all_next v text zero first l = let z : first + 2 * 0 ≡ first = omega arith in rw z
+set_all_next v text (suc j) first l =
+    let z : first + 2 * suc j ≡ first + 2 + 2 * j = omega arith in
+    rw z (set_all_next v text j (first + 2) (set l (byte_at text first) v))
 
-pub ready_turn : (row : ℕ) (cells after : List ℕ) (c : ℕ) (l : List ℕ) → after ≡ kept row (set (said row cells) c (cell_of 1)) cells
-    → kept row (set_all ready (c ∷ l) (said row cells)) cells ≡ kept row (set_all ready l (said row after)) after
-unfolding set_all kept cell_of
-ready_turn row cells after c l e =
-    let n : length (set (said row cells) c ready) ≡ min row (length cells) = length-set (said row cells) c ready ∙ said_length row cells in
-    rw (e, said_kept row (set (said row cells) c ready) cells n, drop-kept row (set (said row cells) c ready) cells n)
+-- so many cells have become ready
+abbrev pub readied : Book → List ℕ → ℕ → ℕ → Book
+readied b text first j = book_of b (set_all ready (bytes_from text first j) (book_in b))
+
+pub readied_start : (b : Book) (text : List ℕ) (first : ℕ) → b ≡ readied b text first 0
+unfolding set_all bytes_from
+readied_start b text first = sym (book_same b)
+
+pub readied_turn : (b : Book) (text : List ℕ) (first j : ℕ) (was after : Book) (c : ℕ) → was ≡ readied b text first j → c ≡ byte_at text (first + 2 * j)
+    → after ≡ book_of was (set (book_in was) c (cell_in Ready)) → after ≡ readied b text first (j + 1)
+unfolding cell_in
+readied_turn b text first j was after c w e a =
+    let book = set_all ready (bytes_from text first j) (book_in b) in
+    let l = length-set_all ready (bytes_from text first j) (book_in b) in
+    rw (a, w, e, book_says b book l, book_again b book l, add-one, set_all_next ready text j first (book_in b))
 
 -- ---- the first book
 
-sets_out : (vs l : List ℕ) (i : ℕ) → length l ≤ i → sets l i vs ≡ l
+sets_next : {A : Type 0} (f : ℕ → A) (n at : ℕ) (l : List A) → sets l at (map f (upto at (suc n))) ≡ set (sets l at (map f (upto at n))) (at + n) (f (at + n))
+unfolding upto
+sets_next f zero at l = let z : at + 0 ≡ at = omega arith in rw z
+sets_next f (suc n) at l = let z : at + suc n ≡ suc at + n = omega arith in rw z (sets_next f n (suc at) (set l at (f at)))
+
+sets_out : {A : Type 0} (vs l : List A) (i : ℕ) → length l ≤ i → sets l i vs ≡ l
 sets_out [] l i h = refl
 sets_out (v ∷ vs) l i h = rw (set_out l i v h) (sets_out vs l (suc i) (omega arith))
 
-abbrev pub first_cells : ℕ → List ℕ
-first_cells inputs = sets blank_cells 0 (map code_of (map holds (upto 0 inputs)))
+-- those that stand past the end change nothing
+sets_most : {A : Type 0} (f : ℕ → A) (n at : ℕ) (l : List A) → sets l at (map f (upto at (min n (length l - at)))) ≡ sets l at (map f (upto at n))
+unfolding upto
+sets_most f zero at l = let z : min 0 (length l - at) ≡ 0 = omega arith in rw z
+sets_most f (suc n) at l = go (sets_most f n (suc at) (set l at (f at))) (dec_lt at (length l))
+  where
+    go : sets (set l at (f at)) (suc at) (map f (upto (suc at) (min n (length (set l at (f at)) - suc at)))) ≡ sets l at (map f (upto at (suc n)))
+        → Dec (at < length l) → sets l at (map f (upto at (min (suc n) (length l - at)))) ≡ sets l at (map f (upto at (suc n)))
+    go r (yes h) =
+        let z : min (suc n) (length l - at) ≡ suc (min n (length (set l at (f at)) - suc at)) = omega (arith, length-set l at (f at)) in
+        rw z r
+    go r (no h) =
+        let z : min (suc n) (length l - at) ≡ 0 = omega arith in
+        rw z (sym (sets_out (map f (upto at (suc n))) l at (omega arith)))
 
--- the cells below s hold their signals
-pub record Begun (inputs s : ℕ) (cells : List ℕ) : Type 0 where
-  pub long : length cells ≡ 256
-  pub same : sets cells s (map code_of (map holds (upto s (inputs - s)))) ≡ first_cells inputs
+-- so many cells hold their signals
+abbrev pub begun : ℕ → List Cell
+begun s = sets blank_cells 0 (map Holds (upto 0 s))
 
-pub begun_start : (inputs : ℕ) (cells : List ℕ) → cells ≡ blank_cells → Begun inputs 0 cells
-unfolding blank_cells
-begun_start inputs cells e = record { long = rw e refl; same = let z : inputs - 0 ≡ inputs = omega arith in rw (e, z) }
+pub begun_turn : (s : ℕ) → set (begun s) s (Holds s) ≡ begun (s + 1)
+begun_turn s = let z : 0 + s ≡ s = omega arith in rw add-one (rw z at (sym (sets_next Holds s 0 blank_cells)))
 
-module _ {inputs s : ℕ} {cells : List ℕ} (b : Begun inputs s cells) where
-  pub begun_turn : s < inputs → Begun inputs (s + 1) (set cells s (s + 2))
-  unfolding upto code_of
-  begun_turn h = record {
-    long = length-set cells s (s + 2) ∙ b.long;
-    same = let z : inputs - s ≡ suc (inputs - (s + 1)) = omega arith in rw (add-two s, add-one s) (rw (z, add-one s) at b.same);
-  }
+pub begun_start : blank_cells ≡ begun 0
+unfolding upto
+begun_start = refl
 
-  pub begun_stop : inputs ≤ s → cells ≡ first_cells inputs
-  unfolding upto
-  begun_stop h = let z : inputs - s ≡ 0 = omega arith in rw z at b.same
-
-  pub begun_end : 256 ≤ s → cells ≡ first_cells inputs
-  begun_end h = sym (sets_out (map code_of (map holds (upto s (inputs - s)))) cells s (omega (arith, b.long))) ∙ b.same
-
--- ---- one cell read
-
-pub cell_past : (cells : List ℕ) (row c : ℕ) → row ≤ c → 0 ≡ get_or (take row cells) c 0
-cell_past cells row c h = sym (get_or-eq_default (take row cells) 0 {n = c} (omega (arith, length-take row cells)))
-
-pub cell_in : (cells : List ℕ) (row c : ℕ) → c < row → get_or cells c 0 ≡ get_or (take row cells) c 0
-cell_in cells row c h = sym (get_or-take row cells c 0 h)
+pub begun_end : (inputs : ℕ) → begun (min inputs 256) ≡ begun inputs
+begun_end inputs = sets_most Holds inputs 0 blank_cells

@@ -1,33 +1,30 @@
--- What a reading and a tail answer as one number.
-use Prim.Native.Nat.{ℕ, ◌-◌, ◌%◌, ◌^◌, ◌≤◌}
-use native.Mathlib.Omega.{arith}
-use mathlib.Core.Path.{◌≡◌, refl, ◌∙◌}
-use mathlib.Core.Bool.{Bool, true, false}
+-- What an answer and a reading are as one number.
+use Rattle.std.specs.Prelude.{ℕ, Result, Ok, Err}
+use Prim.Native.Nat.{◌-◌, ◌%◌, ◌^◌}
+use mathlib.Core.Path.{◌≡◌}
 use mathlib.Core.List.{List}
-use lib.Dec.{eqb}
-use lib.ListN.{length}
-use borrow.Author.Tests.{eqb-true}
-use Rattle.rules.specs.Basics.{pick}
+use Rattle.rules.specs.declared.Refusal.{Refusal}
 use Rattle.rules.specs.Form.{form01}
-use Rattle.rules.specs.Refusals.{good, refused, ◌>>=◌}
+use Rattle.rules.specs.Refusals.{number_of, meaning, ◌>>=◌}
 use Rattle.rules.specs.Netlist.{netlist_of}
-use Rattle.rules.specs.Calls.{tail_outcome}
-use Rattle.netlist.specs.declared.Reading.{Reading}
-use Rattle.netlist.specs.Flat.{reading_of, netlist_in}
+use Rattle.netlist.specs.declared.Netlist.{Netlist}
+use Rattle.netlist.specs.Flat.{reading_of}
 use Rattle.calls.specs.Coded.{coded, read_answer}
 
-pub read_coded : (text : List ℕ) (r : Reading) (n : ℕ) → reading_of r ≡ netlist_of form01 text → n ≡ (2 ^ 64 - r.refusal.number) % 2 ^ 64 → n ≡ coded (read_answer text)
-unfolding reading_of read_answer coded ◌>>=◌ pick
-read_coded text r n e m = rw (← e) (go (eqb r.refusal.number 0) refl)
-  where
-    go : (t : Bool) → eqb r.refusal.number 0 ≡ t
-        → n ≡ coded (pick t (good (netlist_in r.netlist)) (refused r.refusal) >>= λ N. good 0)
-    go true q = let z = eqb-true r.refusal.number 0 q in m ∙ rw z
-    go false q = m
+module _ (a : Result ℕ Refusal) where
+  pub value_coded : (n : ℕ) → a ≡ Ok n → n ≡ coded (meaning a)
+  unfolding coded
+  value_coded n e = rw e
 
-module _ (text tail : List ℕ) (e : tail ≡ tail_outcome text) where
-  pub tail_none : length text ≤ length tail → 0 ≡ length text - length (tail_outcome text)
-  tail_none h = rw (← e) (omega arith)
+  pub refusal_coded : (r : Refusal) (m : ℕ) → a ≡ Err r → m ≡ (2 ^ 64 - number_of r) % 2 ^ 64 → m ≡ coded (meaning a)
+  unfolding coded
+  refusal_coded r m e f = rw (e, f)
 
-  pub tail_place : length text - length tail ≡ length text - length (tail_outcome text)
-  tail_place = rw e
+module _ (text : List ℕ) (r : Result Netlist Refusal) (e : reading_of r ≡ netlist_of form01 text) where
+  pub read_well : (n : Netlist) → r ≡ Ok n → 0 ≡ coded (read_answer text)
+  unfolding read_answer coded ◌>>=◌
+  read_well n f = rw (← e, f)
+
+  pub read_ill : (q : Refusal) (m : ℕ) → r ≡ Err q → m ≡ (2 ^ 64 - number_of q) % 2 ^ 64 → m ≡ coded (read_answer text)
+  unfolding read_answer coded ◌>>=◌
+  read_ill q m f g = rw (← e, f, g)

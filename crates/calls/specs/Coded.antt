@@ -8,7 +8,7 @@ use Rattle.rules.specs.Netlist.{netlist_of}
 -- the value, or minus the refusal's number as a 64-bit machine has it
 unfoldable pub coded : Res ℕ → ℕ
 coded (good n) = n
-coded (refused r) = (2 ^ 64 - r.number) % 2 ^ 64
+coded (refused r) = (2 ^ 64 - r) % 2 ^ 64
 
 -- 0 where a netlist reads well, or the refusal
 unfoldable pub read_answer : List ℕ → Res ℕ

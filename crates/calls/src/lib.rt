@@ -3,30 +3,28 @@
 #![tactic(auto)]
 
 ghost use Rattle.std.specs.Prelude.{◌≡◌, ◌-◌, ◌%◌, ◌^◌, length};
-ghost use Rattle.rules.specs.Refusals.{meaning};
+ghost use Rattle.rules.specs.Refusals.{meaning, number_of};
 ghost use Rattle.rules.specs.Calls.{map_outcome, evaluate_outcome, check_outcome, simulate_outcome, tail_outcome, frame_outcome, place_outcome};
 ghost use Rattle.calls.specs.Coded.{coded, read_answer};
 
-use rules::Answer;
+use rules::Refusal;
+
+// A refusal as one number: minus its own, as a 64-bit machine has it.
+fn minus(r: Refusal) -> u64
+    ensures { result ≡ (2 ^ 64 - number_of r) % 2 ^ 64 }
+{
+    u64::from(r.number()).wrapping_neg()
+}
 
 // An answer as one number.
-fn code(a: Answer) -> u64
+#[tactic(auto, using(crate::proofs::Laws::value_coded))]
+fn code(a: Result<usize, Refusal>) -> u64
     ensures { result ≡ coded (meaning a) }
 {
     match a {
-        Answer::Given(n) => n as u64,
-        Answer::Refused(r) => minus(r.number),
+        Ok(n) => n as u64,
+        Err(r) => minus(r),
     }
-}
-
-// Minus n, as a 64-bit machine has it.
-fn minus(n: u8) -> u64
-    ensures { result ≡ (2 ^ 64 - n) % 2 ^ 64 }
-{
-    if n == 0 {
-        return 0;
-    }
-    18446744073709551615 - (n as u64 - 1)
 }
 
 // read: 0 where a netlist reads well, or the refusal.
@@ -34,9 +32,10 @@ fn minus(n: u8) -> u64
 pub extern "C" fn bhedhmurali_read(text: &[u8]) -> u64
     ensures { result ≡ coded (read_answer text.now) }
 {
-    let r = netlist::read(text);
-    let n = r.refusal.number;
-    minus(n)
+    match netlist::read(text) {
+        Ok(_) => 0,
+        Err(r) => minus(r),
+    }
 }
 
 // map: a netlist's text to a sequence's text for a row. The answer is the text's length.
@@ -70,29 +69,25 @@ pub extern "C" fn bhedhmurali_evaluate(text: &[u8], inputs: &[u8], out: &mut [u8
 pub extern "C" fn bhedhmurali_tail(text: &[u8]) -> usize
     ensures { result ≡ length text.now - length (tail_outcome text.now) }
 {
-    let t = netlist::tail(text);
-    if text.len() <= t.len() {
-        return 0;
-    }
-    text.len() - t.len()
+    text.len().saturating_sub(netlist::tail(text).len())
 }
 
 // How many digits the frame at a place of a text has, 0 where none stands.
+#[tactic(auto, unfolding(frames::specs::Reader::piece_at))]
 #[unsafe(no_mangle)]
 pub extern "C" fn bhedhmurali_frame(text: &[u8], at: usize) -> usize
     ensures { result ≡ length (frame_outcome text.now at) }
 {
-    let p = frames::piece_at(text, at);
-    p.width
+    frames::piece_at(text, at).width
 }
 
 // The place after the frame at a place; the same place where none stands.
+#[tactic(auto, unfolding(frames::specs::Reader::piece_at))]
 #[unsafe(no_mangle)]
 pub extern "C" fn bhedhmurali_next(text: &[u8], at: usize) -> usize
     ensures { result ≡ place_outcome text.now at }
 {
-    let p = frames::piece_at(text, at);
-    p.next
+    frames::piece_at(text, at).next
 }
 
 // simulate: a sequence on a row under a budget. The answer is the cycles run.

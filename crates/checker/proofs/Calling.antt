@@ -1,17 +1,9 @@
 -- The two ways in, over two texts and over one, and what the checking program prints.
-use Prim.Native.Nat.{ℕ, ◌<◌, ◌≤◌}
-use native.Mathlib.Omega.{arith}
-use mathlib.Core.Path.{◌≡◌, refl, sym, ap, ◌∙◌}
-use mathlib.Core.List.{List}
-use lib.Dec.{eqb}
-use lib.ListN.{length, drop}
-use lib.Seq.{sets}
-use borrow.Author.Tests.{ne_eqb, lt-ltb, le-ltb}
+use Rattle.std.proofs.Common.{ℕ, ◌<◌, ◌≤◌, arith, ◌≡◌, refl, sym, ap, ◌∙◌, List, eqb, length, drop, lt-ltb, le-ltb, Result, Ok, Err}
 use Rattle.rules.specs.declared.Refusal.{Refusal}
-use Rattle.rules.specs.declared.Answer.{Answer}
 use Rattle.rules.specs.Basics.{pick}
 use Rattle.rules.specs.Form.{form01}
-use Rattle.rules.specs.Refusals.{Res, good, refused, ◌>>=◌, meaning}
+use Rattle.rules.specs.Refusals.{Res, good, refused, ◌>>=◌, number_of, meaning}
 use Rattle.rules.specs.Lines.{written, bytes_of}
 use Rattle.rules.specs.Netlist as rules
 use Rattle.rules.specs.Netlist.{Part, netlist_lines, netlist_of, well_formed}
@@ -21,9 +13,9 @@ use Rattle.rules.specs.Programs.{refusal_line, cycles_line, printed, held, check
 use Rattle.rules.specs.Calls.{check_outcome, rowcheck_output}
 use Rattle.rules.proofs.Laws.{bind_good, require_good}
 use Rattle.rules.proofs.SequenceReading.{sequence_read}
-use Rattle.netlist.specs.declared.Reading.{Reading}
+use Rattle.netlist.specs.declared.Netlist.{Netlist}
+use Rattle.netlist.specs.declared.Front.{Front}
 use Rattle.netlist.specs.Flat.{netlist_in, reading_of, part_of, front_of}
-use Rattle.netlist.proofs.FlatWell.{read_good, front_good}
 use Rattle.checker.specs.Judged.{judged_of}
 
 -- ---- two texts
@@ -32,16 +24,14 @@ outcome_is : (netlist sequence : List ℕ) → check_outcome netlist sequence �
 unfolding check_outcome checked_text judged_of
 outcome_is netlist sequence = refl
 
-module _ (netlist sequence : List ℕ) (r : Reading) (e : reading_of r ≡ netlist_of form01 netlist) where
-  pub check_refused : (r.refusal.number ≡ 0 → ⊥) → refused r.refusal ≡ check_outcome netlist sequence
-  unfolding reading_of pick ◌>>=◌
-  check_refused z =
-      let n : netlist_of form01 netlist ≡ refused r.refusal = sym e ∙ rw (ne_eqb r.refusal.number 0 z) in
-      rw (outcome_is netlist sequence, n)
-
-  pub check_judged : r.refusal.number ≡ 0 → (m : Res ℕ) → m ≡ judged_of (netlist_in r.netlist) sequence → m ≡ check_outcome netlist sequence
+module _ (netlist sequence : List ℕ) (r : Result Netlist Refusal) (e : reading_of r ≡ netlist_of form01 netlist) where
+  pub check_refused : (x : Refusal) → r ≡ Err x → meaning (Err x) ≡ check_outcome netlist sequence
   unfolding ◌>>=◌
-  check_judged z m q = rw (outcome_is netlist sequence, read_good netlist r e z) q
+  check_refused x q = rw (outcome_is netlist sequence, ← e, q)
+
+  pub check_judged : (n : Netlist) → r ≡ Ok n → (m : Res ℕ) → m ≡ judged_of (netlist_in n) sequence → m ≡ check_outcome netlist sequence
+  unfolding ◌>>=◌
+  check_judged n q m z = rw (outcome_is netlist sequence, ← e, q) z
 
 -- ---- one text
 
@@ -63,17 +53,15 @@ after_is input = go (netlist_lines form01 input)
     go (good p) = formed p (well_formed p.got)
     go (refused r) = refl
 
-module _ (input : List ℕ) (r : Reading) (e : part_of input r ≡ front_of input) where
-  pub after_refused : (r.refusal.number ≡ 0 → ⊥) → refused r.refusal ≡ checking_answer form01 input
-  unfolding part_of pick ◌>>=◌
-  after_refused z =
-      let n : front_of input ≡ refused r.refusal = sym e ∙ rw (ne_eqb r.refusal.number 0 z) in
-      rw (after_is input, n)
+module _ (input : List ℕ) (r : Result Front Refusal) (e : part_of input r ≡ front_of input) where
+  pub after_refused : (x : Refusal) → r ≡ Err x → meaning (Err x) ≡ checking_answer form01 input
+  unfolding ◌>>=◌
+  after_refused x q = rw (after_is input, ← e, q)
 
-  pub after_judged : r.refusal.number ≡ 0 → (tail : List ℕ) (m : Res ℕ) → tail ≡ drop r.tail input → m ≡ judged_of (netlist_in r.netlist) tail
+  pub after_judged : (f : Front) → r ≡ Ok f → (tail : List ℕ) → tail ≡ drop f.tail input → (m : Res ℕ) → m ≡ judged_of (netlist_in f.netlist) tail
       → m ≡ checking_answer form01 input
   unfolding ◌>>=◌
-  after_judged z tail m t q = rw (after_is input, front_good input r e z, ← t) q
+  after_judged f q tail t m z = rw (after_is input, ← e, q, ← t) z
 
 -- ---- the number of instructions takes two bytes
 
@@ -95,7 +83,7 @@ after_few input n e =
     let w = sequence_read form01 a.0.tail b.0 b.1 in
     omega (arith, w.most, checked_count a.0.got b.0 n b.2)
 
-pub cycles_fit : (input : List ℕ) (a : Answer) (n : ℕ) → meaning a ≡ checking_answer form01 input → a ≡ Answer.Given n → n < 65536
+pub cycles_fit : (input : List ℕ) (a : Result ℕ Refusal) (n : ℕ) → meaning a ≡ checking_answer form01 input → a ≡ Ok n → n < 65536
 cycles_fit input a n answers q = omega (arith, after_few input n (sym answers ∙ ap meaning q))
 
 -- ---- what is printed
@@ -104,41 +92,28 @@ output_is : (input : List ℕ) → rowcheck_output input ≡ printed cycles_line
 unfolding rowcheck_output checking_program
 output_is input = refl
 
-refusal_long : (r : Refusal) → 5 ≡ length (refusal_line r)
+pub refusal_long : (r : ℕ) → length (refusal_line r) ≡ 5
 unfolding refusal_line written
 refusal_long r = refl
 
-cycles_long : (n : ℕ) → 7 ≡ length (cycles_line n)
+pub cycles_long : (n : ℕ) → length (cycles_line n) ≡ 7
 unfolding cycles_line written bytes_of
 cycles_long n = refl
 
--- an input longer than the program holds: the line that is printed, and its length
-pub long_output : (input : List ℕ) → 65536 < length input → rowcheck_output input ≡ refusal_line (record { number = 1 })
+-- an input longer than the program holds
+pub output_long : (input : List ℕ) → 65536 < length input → rowcheck_output input ≡ refusal_line 1
 unfolding held printed pick
-long_output input h = rw (output_is input, lt-ltb 65536 (length input) h)
+output_long input h = rw (output_is input, lt-ltb 65536 (length input) h)
 
-pub long_length : (input : List ℕ) → 65536 < length input → 5 ≡ length (rowcheck_output input)
-long_length input h = refusal_long (record { number = 1 }) ∙ ap length (sym (long_output input h))
+module _ (input : List ℕ) (a : Result ℕ Refusal) (short : length input ≤ 65536) (answers : meaning a ≡ checking_answer form01 input) where
+  answer_is : rowcheck_output input ≡ printed cycles_line (meaning a)
+  unfolding held pick
+  answer_is = rw (output_is input, le-ltb 65536 (length input) short, answers)
 
-module _ (input out out' : List ℕ) where
-  abbrev pub Prints : ℕ → Type 0
-  Prints k = (k ≡ length (rowcheck_output input)) × (out' ≡ sets out 0 (rowcheck_output input))
+  pub output_passed : (n : ℕ) → a ≡ Ok n → rowcheck_output input ≡ cycles_line n
+  unfolding printed pick
+  output_passed n q = rw (answer_is, q, cycles_long n)
 
-  prints : (k : ℕ) (l : List ℕ) → rowcheck_output input ≡ l → k ≡ length l → out' ≡ sets out 0 l → Prints k
-  prints k l z n e = (rw z n, rw z e)
-
-  pub prints_long : 65536 < length input → out' ≡ sets out 0 (refusal_line (record { number = 1 })) → Prints 5
-  prints_long h e = (long_length input h, rw (long_output input h) e)
-
-  module _ (short : length input ≤ 65536) (a : Answer) (answers : meaning a ≡ checking_answer form01 input) where
-    answer_is : rowcheck_output input ≡ printed cycles_line (meaning a)
-    unfolding held pick
-    answer_is = rw (output_is input, le-ltb 65536 (length input) short, answers)
-
-    pub prints_cycles : (n : ℕ) → a ≡ Answer.Given n → out' ≡ sets out 0 (cycles_line n) → Prints 7
-    unfolding printed pick
-    prints_cycles n q e = prints 7 (cycles_line n) (rw (answer_is, q, ← cycles_long n)) (cycles_long n) e
-
-    pub prints_refusal : (r : Refusal) → a ≡ Answer.Refused r → out' ≡ sets out 0 (refusal_line r) → Prints 5
-    unfolding printed
-    prints_refusal r q e = prints 5 (refusal_line r) (rw (answer_is, q)) (refusal_long r) e
+  pub output_refused : (r : Refusal) → a ≡ Err r → rowcheck_output input ≡ refusal_line (number_of r)
+  unfolding printed
+  output_refused r q = rw (answer_is, q)

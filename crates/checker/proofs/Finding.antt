@@ -1,12 +1,6 @@
 -- Where no gate has an operand list, and what stands in a list put in order.
-use Prim.Native.Nat.{ℕ, suc, ◌<◌}
-use native.Mathlib.Omega.{arith}
-use mathlib.Core.Path.{◌≡◌, refl, sym, ◌∙◌}
-use mathlib.Core.Bool.{Bool, true, false, ◌||◌}
-use mathlib.Core.List.{List, [], ◌∷◌}
+use Rattle.std.proofs.Common.{ℕ, suc, ◌<◌, arith, ◌≡◌, refl, sym, ◌∙◌, Bool, true, false, ◌||◌, List, [], ◌∷◌, eqb, leb, get_or, length}
 use mathlib.Core.Option.{none, some}
-use lib.Dec.{eqb, leb}
-use lib.ListN.{get_or, length}
 use Rattle.rules.specs.Basics.{pick, mem, same_list, insert, sort}
 use Rattle.rules.specs.Book.{gate_with}
 use Rattle.rules.proofs.Laws.{same_list_eq}
@@ -28,7 +22,7 @@ none_with l k (g ∷ gs) h = go (same_list l g) refl (none_with l (suc k) gs (λ
 abbrev pub Low : List ℕ → Type 0
 Low l = (o : ℕ) → mem o l ≡ true → o < 1024
 
-mem-insert : (o x : ℕ) (l : List ℕ) → mem o (insert x l) ≡ mem o (x ∷ l)
+pub mem-insert : (o x : ℕ) (l : List ℕ) → mem o (insert x l) ≡ mem o (x ∷ l)
 unfolding insert mem pick
 mem-insert o x [] = refl
 mem-insert o x (b ∷ l) = go (leb x b) (mem-insert o x l)

@@ -1,9 +1,9 @@
-pub mod Placing
-pub mod Printing
-pub mod Ordering
-pub mod Matching
 pub mod Finding
+pub mod Sorting
+pub mod Gathering
+pub mod Placing
 pub mod Gating
 pub mod Working
 pub mod Answering
+pub mod Printing
 pub mod Calling

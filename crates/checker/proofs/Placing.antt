@@ -1,76 +1,63 @@
 -- Places one after another: each holds its output, or the checker says 16.
-use Prim.Native.Nat.{ℕ, zero, suc, ◌+◌, ◌-◌, ◌<◌, ◌≤◌}
-use native.Mathlib.Omega.{arith}
-use mathlib.Core.Path.{◌≡◌, refl, sym, ap, ◌∙◌}
-use mathlib.Core.Bool.{Bool, true, false, ◌&&◌}
-use mathlib.Core.List.{List, ◌∷◌}
-use lib.Dec.{eqb}
-use lib.ListN.{get_or, length, take}
-use borrow.Author.Tests.{eq-eqb, ne_eqb, eqb-true, eqb-false}
+use Rattle.std.proofs.Common.{ℕ, suc, ◌+◌, ◌-◌, ◌*◌, ◌<◌, ◌≤◌, min, arith, add-one, ◌≡◌, refl, sym, ap, ◌∙◌, Bool, true, false, ◌&&◌, List, get_or, length, take, drop, drop-cons, eq-eqb, ne_eqb}
+use native.Mathlib.Decide.{dec_lt}
 use Rattle.rules.specs.Book.{is_holding, placed}
 use Rattle.lines.specs.Line.{byte_at}
 use Rattle.lines.proofs.Laws.{byte_past}
 use Rattle.row.specs.Decoded.{each_line, places_at}
-use Rattle.netlist.specs.Flat.{from}
-use Rattle.book.specs.Cells.{cell_of, said}
-use Rattle.book.proofs.Laws.{said_at}
-use Rattle.checker.specs.Places.{PlaceAfter}
+use Rattle.book.specs.declared.Cell.{Cell}
+use Rattle.book.specs.declared.Cell.TheVariants.{Unknown, Ready, Holds}
+use Rattle.book.specs.declared.Book.{Book}
+use Rattle.book.specs.Cells.{cell_in, book_in}
+use Rattle.book.proofs.Laws.{book_at}
 
--- ---- where a place's line stands
+module _ (b : Book) (text : List ℕ) (places : ℕ) (outs : List ℕ) where
+  -- whether the places from the j-th on hold their outputs
+  abbrev from_place : ℕ → Bool
+  from_place j = placed (book_in b) (places_at text (places + 5 * j) (length outs - j)) (drop j outs)
 
-module _ (text : List ℕ) where
-  -- past the text's end every place is cell 0
-  places_past : (k a b : ℕ) → length text ≤ a → length text ≤ b → places_at text a k ≡ places_at text b k
-  unfolding places_at each_line
-  places_past zero a b h l = refl
-  places_past (suc k) a b h l =
-      rw (byte_past text (a + 2) (omega arith), byte_past text (b + 2) (omega arith)) (ap (λ t. 0 ∷ t) (places_past k (a + 5) (b + 5) (omega arith) (omega arith)))
+  -- the first j places hold theirs
+  pub record Held (j : ℕ) : Type 0 where
+    pub same : from_place j ≡ placed (book_in b) (places_at text places (length outs)) outs
 
-  pub after_past : (at : ℕ) → length text ≤ at → PlaceAfter text at at
-  after_past at h = record { same = λ k. places_past k at (at + 5) h (omega arith) }
+  pub held_start : Held 0
+  held_start = record {
+    same = let y : places + 5 * 0 ≡ places = omega arith in let z : length outs - 0 ≡ length outs = omega arith in rw (y, z);
+  }
 
-  pub after_last : (at : ℕ) → length text - at ≤ 5 → PlaceAfter text at (length text)
-  after_last at h = record { same = λ k. places_past k (length text) (at + 5) (omega arith) (omega arith) }
+  module _ {j : ℕ} (h : Held j) (at p : ℕ) (c : Cell) (l : j < length outs) (a : at ≡ min (places + (5 * j + 2)) 18446744073709551615)
+      (long : length text ≤ 18446744073709551615) (q : p ≡ byte_at text at) (f : c ≡ get_or (take b.row b.cells) p Unknown) where
+    abbrev o : ℕ
+    o = get_or outs j 0
 
-  pub cell_past : (at : ℕ) → length text - at ≤ 2 → 0 ≡ byte_at text (at + 2)
-  cell_past at h = sym (byte_past text (at + 2) (omega arith))
+    -- past the largest place the text has ended
+    place_is : p ≡ byte_at text (places + 5 * j + 2)
+    place_is = go (dec_lt (places + (5 * j + 2)) 18446744073709551616)
+      where
+        go : Dec (places + (5 * j + 2) < 18446744073709551616) → p ≡ byte_at text (places + 5 * j + 2)
+        go (yes u) = let z : at ≡ places + 5 * j + 2 = omega arith in q ∙ ap (byte_at text) z
+        go (no u) = q ∙ byte_past text at (omega arith) ∙ sym (byte_past text (places + 5 * j + 2) (omega arith))
 
--- ---- what a place holds
+    next_place : from_place j ≡ (is_holding (cell_in c) o && from_place (suc j))
+    unfolding placed places_at each_line book_in
+    next_place =
+        let z : length outs - j ≡ suc (length outs - suc j) = omega arith in
+        let y : places + 5 * j + 5 ≡ places + 5 * suc j = omega arith in
+        rw (z, y, drop-cons outs j 0 l, ← place_is, book_at b p, ← f)
 
-holding : (n o : ℕ) → is_holding (cell_of n) o ≡ eqb n (o + 2)
-unfolding is_holding cell_of
-holding zero o = sym (ne_eqb 0 (o + 2) (λ e. omega (arith, e)))
-holding (suc zero) o = sym (ne_eqb 1 (o + 2) (λ e. omega (arith, e)))
-holding (suc (suc t)) o = go (eqb t o) refl
-  where
-    go : (b : Bool) → eqb t o ≡ b → eqb t o ≡ eqb (suc (suc t)) (o + 2)
-    go true e = e ∙ sym (eq-eqb (suc (suc t)) (o + 2) (omega (arith, eqb-true t o e)))
-    go false e = e ∙ sym (ne_eqb (suc (suc t)) (o + 2) (λ z. eqb-false t o e (omega (arith, z))))
+    pub held_turn : c ≡ Holds o → Held (j + 1)
+    unfolding is_holding cell_in
+    held_turn g = record { same = rw add-one (sym (rw (g, eq-eqb o o refl) at next_place) ∙ h.same) }
 
-module _ (row : ℕ) (cells text : List ℕ) (places : ℕ) (outs : List ℕ) (k : ℕ) where
-  -- the first j places hold their outputs
-  pub record Held (at j : ℕ) : Type 0 where
-    pub same : placed (said row cells) (places_at text at (k - j)) (from outs j (k - j)) ≡ placed (said row cells) (places_at text places k) (from outs 0 k)
+    pub held_stop : (c ≡ Holds o → ⊥) → false ≡ placed (book_in b) (places_at text places (length outs)) outs
+    unfolding is_holding cell_in
+    held_stop g = sym (next_place ∙ ap (λ t. t && from_place (suc j)) (go c g)) ∙ h.same
+      where
+        go : (d : Cell) → (d ≡ Holds o → ⊥) → is_holding (cell_in d) o ≡ false
+        go Unknown n = refl
+        go Ready n = refl
+        go (Holds t) n = ne_eqb t o (λ z. n (ap Holds z))
 
-  pub held_start : Held places 0
-  held_start = record { same = let z : k - 0 ≡ k = omega arith in rw z }
-
-  module _ {at j : ℕ} (h : Held at j) where
-    -- by the place of output j, and the places after it
-    module _ (p n m : ℕ) (l : j < k) (e : p ≡ byte_at text (at + 2)) (f : n ≡ get_or (take row cells) p 0) (q : m ≡ get_or outs j 0 + 2) where
-      next_place : placed (said row cells) (places_at text at (k - j)) (from outs j (k - j))
-          ≡ (eqb n m && placed (said row cells) (places_at text (at + 5) (k - (j + 1))) (from outs (j + 1) (k - (j + 1))))
-      unfolding placed places_at each_line from
-      next_place =
-          let z : k - j ≡ suc (k - (j + 1)) = omega arith in
-          rw (z, ← e, said_at row cells p, ← f, holding n (get_or outs j 0), ← q)
-
-      pub held_turn : (next : ℕ) → n ≡ m → PlaceAfter text at next → Held next (j + 1)
-      held_turn next g a = record { same = rw (a.same (k - (j + 1))) (sym (rw (eq-eqb n m g) at next_place) ∙ h.same) }
-
-      pub held_stop : (n ≡ m → ⊥) → false ≡ placed (said row cells) (places_at text places k) (from outs 0 k)
-      held_stop g = sym (rw (ne_eqb n m g) at next_place) ∙ h.same
-
-    pub held_end : k ≤ j → true ≡ placed (said row cells) (places_at text places k) (from outs 0 k)
-    unfolding placed places_at each_line from
-    held_end l = let z : k - j ≡ 0 = omega arith in rw z at h.same
+  pub held_end : {j : ℕ} → Held j → length outs ≤ j → true ≡ placed (book_in b) (places_at text places (length outs)) outs
+  unfolding placed places_at each_line
+  held_end {j} h l = let z : length outs - j ≡ 0 = omega arith in rw z at h.same

@@ -1,8 +1,5 @@
 -- A line put byte by byte is the line that the checking program prints.
-use Prim.Native.Nat.{ℕ, ◌/◌, ◌%◌}
-use mathlib.Core.Path.{◌≡◌}
-use mathlib.Core.List.{List}
-use lib.ListN.{set}
+use Rattle.std.proofs.Common.{ℕ, ◌/◌, ◌%◌, ◌≡◌, List, set}
 use lib.Seq.{sets}
 use Rattle.rules.specs.Lines.{written, bytes_of}
 use Rattle.rules.specs.Programs.{cycles_line}

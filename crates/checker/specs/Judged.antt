@@ -4,24 +4,14 @@ use Rattle.std.specs.Prelude.{ℕ, ◌<◌, ◌≤◌, ◌≡◌, List}
 use Rattle.rules.specs.Form.{form01}
 use Rattle.rules.specs.Refusals.{Res, ◌>>=◌}
 use Rattle.rules.specs.Netlist as rules
-use Rattle.rules.specs.Sequence.{Sequence, sequence_of}
+use Rattle.rules.specs.Sequence.{sequence_of}
 use Rattle.rules.specs.Book.{checked}
 use Rattle.row.specs.declared.Head.{Head}
-use Rattle.row.specs.Decoded.{instructions_at, places_at}
 use Rattle.netlist.specs.declared.Netlist.{Netlist}
 use Rattle.netlist.specs.Flat.{netlist_in}
 use Rattle.netlist.specs.Well.{Well}
 
--- the sequence that stands in a text where its head says
-unfoldable pub sequence_at : List ℕ → Head → Sequence
-sequence_at text h = record {
-  row = h.row;
-  inputs = h.inputs;
-  outputs = h.outputs;
-  instructions = instructions_at text h.code h.instructions;
-  places = places_at text h.places h.outputs;
-}
-
+-- a netlist that was read well, and a sequence's head that agrees with it
 pub record Agreed (n : Netlist) (text : List ℕ) (h : Head) : Type 0 where
   pub well : Well (netlist_in n)
   pub inputs_agree : h.inputs ≡ n.inputs

@@ -1,5 +1,2 @@
-pub mod Places
 pub mod Operands
-pub mod Gates
-pub mod Works
 pub mod Judged

@@ -1,59 +1,55 @@
 // The gate that a NOR line makes: the one whose operand list the operand signals, put in order, are.
-ghost use Rattle.std.specs.Prelude.{◌≡◌, ◌+◌, ◌*◌, ◌≤◌, length};
-ghost use Rattle.book.specs.Cells.{said};
-ghost use Rattle.checker.specs.Gates.{code_found, gate_made};
+ghost use Rattle.std.specs.Prelude.{◌≡◌, ◌+◌, ◌*◌, ◌≤◌, length, min};
+ghost use Rattle.instruction.specs.Line.{instruction_in};
+ghost use Rattle.index.specs.Chains.{chained};
+ghost use Rattle.netlist.specs.Flat.{netlist_in};
+ghost use Rattle.netlist.specs.Keys.{keys_in};
+ghost use Rattle.netlist.specs.Well.{Well};
+ghost use Rattle.book.specs.Cells.{book_in};
+ghost use Rattle.book.specs.Steps.{gate_in, gate_for};
 
 use crate::operands;
-use index::Found;
+use book::Book;
+use index::Chains;
 use instruction::Instruction;
+use netlist::Netlist;
 
-// The gate at a place as the book has it: its signal and 2 more; 0 for none.
-fn code(f: Found, inputs: usize) -> u16
-    ensures { result ≡ code_found inputs f }
-{
-    if 64 < inputs {
-        return 0;
-    }
-    match f {
-        Found::At(g) => {
-            if 512 <= g {
-                return 0;
-            }
-            (inputs + g + 2) as u16
-        }
-        Found::Nothing => 0,
-    }
+// A netlist's gates, found by the keys of their operand lists.
+#[derive(Clone, Copy)]
+pub(crate) struct Gates<'a> {
+    pub(crate) netlist: &'a Netlist,
+    keys: [u64; 512],
+    chains: Chains,
+    ghost well: { Well (netlist_in netlist.now) },
+    ghost keyed: { keys ≡ keys_in netlist.now },
+    ghost linked: { chains ≡ chained keys (min netlist.now.gates 512) },
 }
 
-// The gate that an instruction makes, found among the keys of the gates' operand lists by their chains.
-pub(crate) fn gate_for(
-    cells: &[u16; 256],
-    row: usize,
-    text: &[u8],
-    i: Instruction,
-    keys: &[u64],
-    heads: &[u16],
-    next: &[u16],
-    inputs: usize,
-) -> u16
-    requires { i.first + 2 * i.cells ≤ length text.now }
-    ensures { result ≡ gate_made inputs keys.now heads.now next.now (said row cells.now) text.now i }
-{
-    let first = i.first;
-    let k = i.cells;
-    if i.set {
-        return 0;
+impl<'a> Gates<'a> {
+    pub(crate) fn of(netlist: &'a Netlist) -> Gates<'a>
+        requires { Well (netlist_in netlist.now) }
+        ensures { result.netlist.now ≡ netlist.now }
+    {
+        let keys = netlist::keys::gate_keys(netlist);
+        let chains = Chains::of(&keys, netlist.gates);
+        Gates {
+            netlist,
+            keys,
+            chains,
+        }
     }
-    if k < 2 {
-        return 0;
+
+    // The gate that an instruction makes. A set line makes none, and a NOR has 1 to 4 operands.
+    #[tactic(auto, using(crate::proofs::Gating::made_unheld, crate::proofs::Gating::made_gate, crate::proofs::Gating::made_small, crate::proofs::Gating::made_missing))]
+    pub(crate) fn made_by(&self, book: &Book, text: &[u8], i: Instruction) -> Option<u16>
+        requires { i.first + 2 * i.cells ≤ length text.now }
+        ensures { gate_in result ≡ gate_for (netlist_in self.now.netlist.now) (instruction_in text.now i) (book_in book.now) }
+    {
+        if i.set || !(2..=5).contains(&i.cells) {
+            return None;
+        }
+        let key = operands::key(book, text, i)?;
+        let g = self.chains.find(&self.keys, key)?;
+        Some((self.netlist.inputs + g) as u16)
     }
-    if 5 < k {
-        return 0;
-    }
-    let o = operands::read(cells, row, text, first, k);
-    if !o.all {
-        return 0;
-    }
-    let key = operands::key(o.four, k - 1);
-    code(index::find(keys, heads, next, key), inputs)
 }

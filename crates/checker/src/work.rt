@@ -1,41 +1,33 @@
 // Instruction by instruction, up to the first that is refused.
 ghost use Rattle.std.specs.Prelude.{◌≡◌};
-ghost use Rattle.checker.specs.Works.{worked_of};
+ghost use Rattle.rules.specs.Refusals.{meaning_by};
+ghost use Rattle.rules.specs.Book.{steps};
+ghost use Rattle.instruction.specs.Line.{instructions_at};
+ghost use Rattle.netlist.specs.Flat.{netlist_in};
+ghost use Rattle.book.specs.Cells.{book_in};
 
-use crate::gates;
-use book::{Book, Outcome};
+use crate::gates::Gates;
+use book::Book;
 use rules::Refusal;
 
-// The instructions whose lines begin at a place of the text, so many of them. The gates are found by their keys and the keys' chains.
+// The instructions whose lines begin at a place of the text, so many of them.
+#[tactic(auto, using(crate::proofs::Working::inside, crate::proofs::Working::worked_start, crate::proofs::Working::worked_stop, crate::proofs::Working::worked_end))]
 pub(crate) fn worked(
-    book: Book,
+    book: &mut Book,
     text: &[u8],
     code: usize,
     count: usize,
-    keys: &[u64],
-    heads: &[u16],
-    next: &[u16],
-) -> Outcome
-    ensures { result ≡ worked_of keys.now heads.now next.now text.now count code book }
+    gates: &Gates<'_>,
+) -> Result<(), Refusal>
+    requires { book.old.inputs ≡ gates.now.netlist.now.inputs }
+    ensures { meaning_by (λ _. book_in book.new) result ≡ steps (netlist_in gates.now.netlist.now) (instructions_at text.now code count) (book_in book.old) }
 {
-    let mut b = book;
     let mut at = code;
-    let mut done = 0;
-    while done < count {
+    for _done in 0..count {
         let i = instruction::instruction_at(text, at);
-        let row = b.row;
-        let inputs = b.inputs;
-        let gate = gates::gate_for(&b.cells, row, text, i, keys, heads, next, inputs);
-        let o = book::stepped_through(b, text, i, gate);
-        if o.refusal.number != 0 {
-            return o;
-        }
-        b = o.book;
+        let gate = gates.made_by(book, text, i);
+        book.step(text, i, gate)?;
         at = i.next;
-        done += 1;
     }
-    Outcome {
-        refusal: Refusal { number: 0 },
-        book: b,
-    }
+    Ok(())
 }

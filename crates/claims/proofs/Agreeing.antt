@@ -1,25 +1,19 @@
 -- The checker's book agrees with the mapper's slots: what is ready there is ready here, what is kept there is held here.
 -- Assumes nothing.
-use Prim.Native.Nat.{ℕ, ◌<◌}
-use native.Mathlib.Omega.{arith}
+use Rattle.std.proofs.Common.{ℕ, ◌<◌, arith, ◌≡◌, refl, sym, ap, ◌∙◌, Bool, true, false, List, [], ◌∷◌, ◌++◌, map, ltb-true, get_or, length, set, length-set, get_or-set_same, get_or-set_other}
 use native.Mathlib.Decide.{ℕ_discrete}
-use mathlib.Core.Path.{◌≡◌, refl, sym, ap, ◌∙◌}
-use mathlib.Core.Bool.{Bool, true, false}
-use mathlib.Core.List.{List, [], ◌∷◌, ◌++◌, map}
 use mathlib.Core.Option.{some}
-use borrow.Author.Tests.{ltb-true}
-use lib.ListN.{get_or, length, set, length-set}
-use lib.Seq.{get_or-set_same, get_or-set_other}
+use Rattle.std.proofs.lemmas.Bool.{false_from_ne_true}
 use Rattle.rules.specs.Basics.{pick, mem, set_all}
 use Rattle.rules.specs.Refusals.{good, or_refuse, ◌>>=◌}
 use Rattle.rules.specs.Netlist.{Netlist, operands_of}
 use Rattle.rules.specs.Sequence.{Instruction, Set, Nor}
 use Rattle.rules.specs.Cells.{Slot, blank, ready, keeps, cell_of, State, place, set_cells}
 use Rattle.rules.specs.Book.{Cell, unknown, ready as set_ready, holds, first_book, if_holds, signals, fixed, made, step, steps}
-use Rattle.rules.proofs.Laws.{no_way, bind_good, cons_more, cons_self}
-use Rattle.rules.proofs.Lists.{absent, none_of, length-set_all}
+use Rattle.rules.proofs.Laws.{bind_good, cons_more, cons_self}
+use Rattle.rules.proofs.Lists.{none_of, length-set_all, known}
 use Rattle.rules.proofs.Reading.{Well}
-use Rattle.claims.proofs.Slots.{known, set_all_at}
+use Rattle.claims.proofs.Slots.{set_all_at}
 use Rattle.claims.proofs.Executing.{Turn}
 use Rattle.claims.proofs.Matching.{gate_found}
 use Rattle.claims.proofs.Keeping.{Kept, in_row_lem, operand_kept, before}
@@ -48,7 +42,7 @@ signals_of b sl (o ∷ os) h = rw (h o (cons_self o os), signals_of b sl os (λ 
 
 -- a slot that keeps no input is no input's
 free : (N : Netlist) (row : ℕ) (st : State) → Kept N row st → (c : ℕ) → (get_or st.slots c blank ≡ keeps c → ⊥) → fixed N c ≡ false
-free N row st I c h = absent (fixed N c) (λ e. h (I.input c (ltb-true c N.inputs e)))
+free N row st I c h = false_from_ne_true (fixed N c) (λ e. h (I.input c (ltb-true c N.inputs e)))
 
 -- ---- a gate placed in a ready cell
 
@@ -66,7 +60,7 @@ module _ (N : Netlist) (W : Well N) (row : ℕ) (st : State) (I : Kept N row st)
   step_ok : step N (Nor c (map (cell_of sl) (operands_of N g))) b ≡ good (set b c (holds g))
   unfolding step made or_refuse ◌>>=◌ pick
   step_ok = rw (
-    free N row st I c (λ e. no_way (cc)),
+    free N row st I c (λ e. cc),
     A.set c rd,
     signals_of b sl (operands_of N g) operand_held,
     gate_found N W g turn.gate,
@@ -77,15 +71,15 @@ module _ (N : Netlist) (W : Well N) (row : ℕ) (st : State) (I : Kept N row st)
   place_agrees = record {
     ran = steps_snoc N st.code (Nor c (map (cell_of sl) (operands_of N g))) (first_book N.inputs row) b (set b c (holds g)) A.ran step_ok;
     size = length-set b c (holds g) ∙ A.size;
-    set = λ x e. set' x (ℕ_discrete x c) (before N row st I g c turn rd x ready (λ q. no_way (cc)) (λ q. no_way (cc)) e);
-    held = λ x s e. held' x s (ℕ_discrete x c) (before N row st I g c turn rd x (keeps s) (λ q. no_way (cc)) (λ q. no_way (cc)) e);
+    set = λ x e. set' x (ℕ_discrete x c) (before N row st I g c turn rd x ready (λ q. cc) (λ q. cc) e);
+    held = λ x s e. held' x s (ℕ_discrete x c) (before N row st I g c turn rd x (keeps s) (λ q. cc) (λ q. cc) e);
   }
     where
       placed : get_or (set sl c (keeps g)) c blank ≡ keeps g
       placed = get_or-set_same sl c (keeps g) blank (in_row_lem N row st I g c turn rd)
 
       set' : (x : ℕ) → Dec (x ≡ c) → get_or (set sl c (keeps g)) x blank ≡ ready → get_or (set b c (holds g)) x unknown ≡ set_ready
-      set' x (yes p) e = let z = placed in let e' = rw p at e in absurd (no_way (cc))
+      set' x (yes p) e = let z = placed in let e' = rw p at e in cc
       set' x (no q) e = get_or-set_other b c x (holds g) unknown q ∙ A.set x (sym (get_or-set_other sl c x (keeps g) blank q) ∙ e)
 
       held' : (x s : ℕ) → Dec (x ≡ c) → get_or (set sl c (keeps g)) x blank ≡ keeps s → get_or (set b c (holds g)) x unknown ≡ holds s
@@ -102,15 +96,15 @@ module _ (N : Netlist) (row : ℕ) (st : State) (I : Kept N row st) (b : List Ce
     (spares : (c s : ℕ) → get_or st.slots c blank ≡ keeps s → mem c cs ≡ false) where
   set_ok : step N (Set cs) b ≡ good (set_all set_ready cs b)
   unfolding step pick
-  set_ok = rw (none_of (fixed N) cs (λ c e. free N row st I c (λ k. no_way (let z = spares c c k in cc))))
+  set_ok = rw (none_of (fixed N) cs (λ c e. free N row st I c (λ k. let z = spares c c k in cc)))
 
   pub set_agrees : Agrees N row (set_all set_ready cs b) (set_cells N cs st)
   unfolding set_cells pick
   set_agrees = record {
     ran = steps_snoc N st.code (Set cs) (first_book N.inputs row) b (set_all set_ready cs b) A.ran set_ok;
     size = length-set_all set_ready cs b ∙ A.size;
-    set = λ x e. let h = inside x ready e (λ q. no_way (cc)) in set' x h (mem x cs) refl (sym (set_all_at ready cs st.slots x blank h) ∙ e);
-    held = λ x s e. let h = inside x (keeps s) e (λ q. no_way (cc)) in held' x s h (mem x cs) refl (sym (set_all_at ready cs st.slots x blank h) ∙ e);
+    set = λ x e. let h = inside x ready e (λ q. cc) in set' x h (mem x cs) refl (sym (set_all_at ready cs st.slots x blank h) ∙ e);
+    held = λ x s e. let h = inside x (keeps s) e (λ q. cc) in held' x s h (mem x cs) refl (sym (set_all_at ready cs st.slots x blank h) ∙ e);
   }
     where
       inside : (x : ℕ) (v : Slot) → get_or (set_all ready cs st.slots) x blank ≡ v → (v ≡ blank → ⊥) → x < length st.slots
@@ -126,5 +120,5 @@ module _ (N : Netlist) (row : ℕ) (st : State) (I : Kept N row st) (b : List Ce
 
       held' : (x s : ℕ) → x < length st.slots → (t : Bool) → mem x cs ≡ t → pick (mem x cs) ready (get_or st.slots x blank) ≡ keeps s
           → get_or (set_all set_ready cs b) x unknown ≡ holds s
-      held' x s h true p e = absurd (no_way (let e' = rw p at e in cc))
+      held' x s h true p e = let e' = rw p at e in cc
       held' x s h false p e = at_b x h ∙ rw p (A.held x s (rw p at e))

@@ -1,15 +1,11 @@
 -- Numbers written as bytes read back, of one byte or of two.
 -- Assumes nothing.
-use Prim.Native.Nat.{ℕ, ◌+◌, ◌*◌, ◌/◌, ◌%◌, ◌<◌}
-use native.Mathlib.Omega.{arith}
-use mathlib.Core.Path.{◌≡◌, refl}
-use mathlib.Core.List.{List, [], ◌∷◌, ◌++◌}
+use Rattle.std.proofs.Common.{ℕ, ◌+◌, ◌*◌, ◌/◌, ◌%◌, ◌<◌, arith, ◌≡◌, refl, List, [], ◌∷◌, ◌++◌, length}
 use mathlib.Core.Option.{some}
-use lib.ListN.{length}
+use Rattle.rules.proofs.Lists.{Below}
 use Rattle.rules.specs.Form.{Width, one, two}
 use Rattle.rules.specs.Lines.{also, numbers, fields, bytes_of}
 use Rattle.rules.proofs.Laws.{cons_cases, cons_more, cons_self, mem-nil}
-use Rattle.claims.proofs.ReadBack.{Below}
 
 -- how many bytes a width takes, and the numbers that they hold
 unfoldable pub bytes : Width → ℕ

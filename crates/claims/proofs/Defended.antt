@@ -1,10 +1,6 @@
 -- What the checker passes, the row does, over texts and calls.
-use Prim.Native.Nat.{ℕ, ◌<◌, ◌≤◌}
-use native.Mathlib.Omega.{arith}
-use mathlib.Core.Path.{◌≡◌, sym, ap, ◌∙◌}
-use mathlib.Core.Bool.{true}
-use mathlib.Core.List.{List, ◌++◌}
-use lib.ListN.{get_or, length, take, drop}
+use Rattle.std.proofs.Common.{ℕ, ◌<◌, ◌≤◌, arith, ◌≡◌, sym, ap, ◌∙◌, true, List, ◌++◌, get_or, length, take, drop}
+use Rattle.rules.proofs.Reading.{netlist_read}
 use Rattle.rules.specs.Form.{form01}
 use Rattle.rules.specs.Refusals.{good}
 use Rattle.rules.specs.Netlist.{Netlist, netlist_of}
@@ -15,11 +11,9 @@ use Rattle.rules.specs.Book.{checked_text}
 use Rattle.rules.specs.Calls.{Outcome, check_outcome, simulate_outcome, evaluate_outcome}
 use Rattle.rules.proofs.Laws.{bind_good}
 use Rattle.claims.specs.Defended.{RunsRight, Defended}
-use Rattle.rules.proofs.Lists.{each_at}
 use Rattle.claims.proofs.Stays.{run_ends, run_length, run_stays}
 use Rattle.claims.proofs.Sound.{Checked, checked_good, inputs_stay, places_hold}
 use Rattle.rules.proofs.SequenceReading.{ReadSequence, sequence_read}
-use Rattle.claims.proofs.ReadsWell.{netlist_ordered}
 use Rattle.claims.proofs.Outcomes.{simulates, evaluates, output_at, bits_length, bits_take}
 
 cycles_end : (budget : ℕ) (is : List Instruction) → length is ≤ budget → cycles budget is ≡ length is
@@ -69,10 +63,10 @@ module _ (netlist sequence : List ℕ) (N : Netlist) (S : Sequence) (n : ℕ) (r
       held : (k : ℕ) → k < length N.outputs
           → get_or (run budget is row) (get_or S.places k 0) 0 ≡ get_or (values N ins) (get_or N.outputs k 0) 0
       held k hk =
-          rw (run_ends budget is row ends) (places_hold N S n row c (netlist_ordered form01 netlist N readN) room places_count long k hk)
+          rw (run_ends budget is row ends) (places_hold N S n row c (netlist_read form01 netlist N readN).0 room places_count long k hk)
 
       in_row_lem : (k : ℕ) → k < length N.outputs → get_or S.places k 0 < length row
-      in_row_lem k hk = rw long (each_at (λ _ p. p < S.row) 0 S.places 0 r.in_row k (omega (arith, places_count)))
+      in_row_lem k hk = rw long (r.in_row k 0 (omega (arith, places_count)))
 
 pub defended : Defended
 unfolding check_outcome checked_text

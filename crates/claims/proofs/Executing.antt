@@ -1,19 +1,13 @@
 -- What placing a gate and setting cells keep, executing gates keeps: for any rule of sets, and any order that runs operands first.
 -- Assumes nothing.
-use Prim.Native.Nat.{ℕ}
-use mathlib.Core.Path.{◌≡◌, refl, sym, ◌∙◌}
-use mathlib.Core.Bool.{Bool, true, false, ◌||◌}
-use mathlib.Core.List.{List, [], ◌∷◌, ◌++◌, append-nil, append_assoc}
+use Rattle.std.proofs.Common.{ℕ, ◌≡◌, refl, sym, ◌∙◌, Bool, true, false, ◌||◌, List, [], ◌∷◌, ◌++◌, append-nil, append_assoc, ltb, leb, ltb-false, le-leb, get_or}
 use mathlib.Core.Option.{Option, none, some}
-use lib.Dec.{ltb, leb}
-use borrow.Author.Tests.{ltb-false, le-leb}
-use lib.ListN.{get_or}
 use Rattle.rules.specs.Basics.{mem}
 use Rattle.rules.specs.Refusals.{good}
 use Rattle.rules.specs.Netlist.{Netlist, operands_of}
 use Rattle.rules.specs.Weight.{gate_operands}
 use Rattle.rules.specs.Cells.{Slot, blank, ready, is_ready, lowest, State, place, set_cells, in_ready, after_set, in_lowest, execute_gate, execute_gates}
-use Rattle.rules.proofs.Laws.{no_way, bind_good, cons_more, cons_self}
+use Rattle.rules.proofs.Laws.{bind_good, cons_more, cons_self}
 use Rattle.rules.proofs.Answers.{good_same}
 use Rattle.rules.proofs.Lists.{mem-keep}
 use Rattle.claims.proofs.Visits.{Runs}
@@ -23,21 +17,21 @@ use Rattle.claims.proofs.Slots.{lowest_ready}
 use Rattle.claims.proofs.Served.{present}
 
 -- a gate that was executed went into the lowest ready cell, at once or after one set line
-pub gate_cases : (N : Netlist) (renew : List Slot → List ℕ) (P : Type 0) (g : ℕ) (st st' : State) → execute_gate N renew g st ≡ good st'
+pub gate_cases : {P : Type 0} (N : Netlist) (renew : List Slot → List ℕ) (g : ℕ) (st st' : State) → execute_gate N renew g st ≡ good st'
     → ((c : ℕ) → lowest is_ready 0 st.slots ≡ some c → place N g c st ≡ st' → P)
     → ((d : ℕ) (ds : List ℕ) (c : ℕ) → lowest is_ready 0 st.slots ≡ none → renew st.slots ≡ d ∷ ds
     → lowest is_ready 0 (set_cells N (d ∷ ds) st).slots ≡ some c → place N g c (set_cells N (d ∷ ds) st) ≡ st' → P)
     → P
 unfolding execute_gate in_lowest after_set in_ready
-gate_cases N renew P g st st' e at_once after = go (lowest is_ready 0 st.slots) refl e
+gate_cases {P} N renew g st st' e at_once after = go (lowest is_ready 0 st.slots) refl e
   where
     again : (d : ℕ) (ds : List ℕ) → lowest is_ready 0 st.slots ≡ none → renew st.slots ≡ d ∷ ds
         → (o : Option ℕ) → lowest is_ready 0 (set_cells N (d ∷ ds) st).slots ≡ o → in_ready N g (set_cells N (d ∷ ds) st) o ≡ good st' → P
-    again d ds p q none r f = absurd (no_way (cc))
+    again d ds p q none r f = cc
     again d ds p q (some c) r f = after d ds c p q r (good_same (place N g c (set_cells N (d ∷ ds) st)) st' f)
 
     renewed : lowest is_ready 0 st.slots ≡ none → (l : List ℕ) → renew st.slots ≡ l → after_set N g st l ≡ good st' → P
-    renewed p [] q f = absurd (no_way (cc))
+    renewed p [] q f = cc
     renewed p (d ∷ ds) q f = again d ds p q (lowest is_ready 0 (set_cells N (d ∷ ds) st).slots) refl f
 
     go : (o : Option ℕ) → lowest is_ready 0 st.slots ≡ o → in_lowest N renew g st o ≡ good st' → P
@@ -56,7 +50,7 @@ module _ (N : Netlist) (renew : List Slot → List ℕ) (P : State → Type 0)
   executed : (st st' : State) (g : ℕ) → P st → Turn N st.done g → execute_gate N renew g st ≡ good st' → P st' × (st'.done ≡ st.done ++ (g ∷ []))
   unfolding set_cells place
   executed st st' g I turn e =
-      gate_cases N renew (P st' × (st'.done ≡ st.done ++ (g ∷ []))) g st st' e
+      gate_cases N renew g st st' e
       (λ c p z. rw (← z) (placing st g c I turn (lowest_ready st.slots c p), refl))
       (λ d ds c _ q p z. rw (← z) (placing (set_cells N (d ∷ ds) st) g c (setting st d ds I q) turn (lowest_ready (set_cells N (d ∷ ds) st).slots c p), refl))
 

@@ -1,22 +1,17 @@
 -- The checker's book tells the truth about the row, instruction by instruction.
-use Prim.Native.Nat.{ℕ, zero, suc, ◌<◌, ◌≤◌, zero-le, suc-le-suc}
-use native.Mathlib.Omega.{arith}
+use Rattle.std.proofs.Common.{ℕ, ◌<◌, ◌≤◌, arith, ◌≡◌, refl, sym, ◌∙◌, Bool, true, false, List, [], ◌∷◌, eqb, get_or, length, set, length-set, get_or-set_same, get_or-set_other}
 use native.Mathlib.Decide.{ℕ_discrete, dec_lt}
-use mathlib.Core.Path.{◌≡◌, refl, sym, ◌∙◌}
-use mathlib.Core.Bool.{Bool, true, false}
-use mathlib.Core.List.{List, [], ◌∷◌}
 use mathlib.Core.Option.{Option, none, some}
-use lib.Dec.{eqb}
-use lib.ListN.{get_or, length, set, length-set}
-use lib.Seq.{get_or-set_same, get_or-set_other, set_out}
+use lib.Seq.{set_out}
+use Rattle.rules.proofs.Lists.{known}
 use Rattle.rules.specs.Basics.{pick, any, sort, set_all}
-use Rattle.rules.specs.Refusals.{good, refuse, ◌>>=◌}
+use Rattle.rules.specs.Refusals.{good, refused, ◌>>=◌}
 use Rattle.rules.specs.Netlist.{Netlist}
 use Rattle.rules.specs.Sequence.{Instruction, Set, Nor}
 use Rattle.rules.specs.Values.{nor}
 use Rattle.rules.specs.Device.{execute, run}
 use Rattle.rules.specs.Book.{Cell, unknown, ready, holds, if_holds, signals, gate_with, fixed, gate_on, made, step, steps}
-use Rattle.rules.proofs.Laws.{no_way, bind_good, or_refuse_good}
+use Rattle.rules.proofs.Laws.{bind_good, or_refuse_good}
 use Rattle.claims.proofs.Table.{nor_sort}
 
 -- a held signal's cell has its value, a ready cell has 1
@@ -24,12 +19,6 @@ pub record Fits (vs : List ℕ) (b : List Cell) (r : List ℕ) : Type 0 where
   pub len : length b ≡ length r
   pub val : (c s : ℕ) → get_or b c unknown ≡ holds s → get_or r c 0 ≡ get_or vs s 0
   pub one : (c : ℕ) → get_or b c unknown ≡ ready → get_or r c 0 ≡ 1
-
--- a cell that the book says is ready lies in the row
-inside : (b : List Cell) (c : ℕ) → get_or b c unknown ≡ ready → c < length b
-inside [] c e = absurd (no_way (cc))
-inside (x ∷ b) zero e = suc-le-suc zero-le
-inside (x ∷ b) (suc c) e = suc-le-suc (inside b c e)
 
 -- one cell is altered in both
 put : (vs : List ℕ) (b : List Cell) (r : List ℕ) (c : ℕ) (x : Cell) (v : ℕ) → c < length b → Fits vs b r
@@ -73,18 +62,18 @@ operands vs b r fit (c ∷ cs) ss e = go (get_or b c unknown) refl (signals b cs
     go : (x : Cell) → get_or b c unknown ≡ x → (o : Option (List ℕ)) → signals b cs ≡ o
         → ((ts : List ℕ) → signals b cs ≡ some ts → nor r cs ≡ nor vs ts) → if_holds x o ≡ some ss
         → pick (eqb (get_or r c 0) 0) (nor r cs) 0 ≡ nor vs ss
-    go unknown p o q rec e' = absurd (no_way (cc))
-    go ready p o q rec e' = absurd (no_way (cc))
-    go (holds s) p none q rec e' = absurd (no_way (cc))
+    go unknown p o q rec e' = cc
+    go ready p o q rec e' = cc
+    go (holds s) p none q rec e' = cc
     go (holds s) p (some ts) q rec e' = let w : s ∷ ts ≡ ss = cc in rw (← w, fit.val c s p, rec ts q)
 
 -- what a NOR that is passed was given: a ready cell, and signals that are a gate's operands
 made_good : (N : Netlist) (x : Cell) (o : Option (List ℕ)) (g : ℕ) → made N x o ≡ good g
     → (x ≡ ready) × (ss : List ℕ) × (o ≡ some ss) × (gate_with (sort ss) N.inputs N.gates ≡ some g)
 unfolding made gate_on
-made_good N unknown o g e = absurd (no_way (cc))
-made_good N (holds s) o g e = absurd (no_way (cc))
-made_good N ready none g e = let p = or_refuse_good 15 none g e in absurd (no_way (cc))
+made_good N unknown o g e = cc
+made_good N (holds s) o g e = cc
+made_good N ready none g e = let p = or_refuse_good 15 none g e in cc
 made_good N ready (some ss) g e = (refl, ss, refl, or_refuse_good 15 (gate_with (sort ss) N.inputs N.gates) g e)
 
 module _ (N : Netlist) (vs : List ℕ)
@@ -98,20 +87,20 @@ module _ (N : Netlist) (vs : List ℕ)
       let same : set b w (holds g) ≡ b' = cc in
       let v : nor r cs ≡ get_or vs g 0 = operands vs b r fit cs ss o ∙ sym (true_gates (sort ss) g u ∙ nor_sort vs ss) in
       rw (← same, fit.one w is_ready)
-      (put vs b r w (holds g) (nor r cs) (inside b w is_ready) fit (λ t f. let h : g ≡ t = cc in v ∙ rw h) (λ f. absurd (no_way (cc))))
+      (put vs b r w (holds g) (nor r cs) (known b w ready is_ready (λ q. cc)) fit (λ t f. let h : g ≡ t = cc in v ∙ rw h) (λ f. cc))
 
   step_fits : (i : Instruction) (b b' : List Cell) (r : List ℕ) → Fits vs b r → step N i b ≡ good b' → Fits vs b' (execute i r)
   unfolding step execute pick
   step_fits (Set cs) b b' r fit e = go (any (fixed N) cs) e
     where
-      go : (t : Bool) → pick t (refuse 13) (good (set_all ready cs b)) ≡ good b' → Fits vs b' (set_all 1 cs r)
-      go true f = absurd (no_way (cc))
+      go : (t : Bool) → pick t (refused 13) (good (set_all ready cs b)) ≡ good b' → Fits vs b' (set_all 1 cs r)
+      go true f = cc
       go false f = let g : set_all ready cs b ≡ b' = cc in rw (← g) (ready_all vs cs b r fit)
   step_fits (Nor w cs) b b' r fit e = go (fixed N w) e
     where
-      go : (t : Bool) → pick t (refuse 13) (made N (get_or b w unknown) (signals b cs) >>= λ g. good (set b w (holds g))) ≡ good b'
+      go : (t : Bool) → pick t (refused 13) (made N (get_or b w unknown) (signals b cs) >>= λ g. good (set b w (holds g))) ≡ good b'
           → Fits vs b' (execute (Nor w cs) r)
-      go true f = absurd (no_way (cc))
+      go true f = cc
       go false f = nor_fits b b' r w cs fit f
 
   -- at the end of what is passed the book fits the row

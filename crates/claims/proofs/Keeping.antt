@@ -1,18 +1,12 @@
 -- No signal that is still needed is lost: placing a gate and setting cells leave its slot alone.
 -- Assumes nothing.
-use Prim.Native.Nat.{ℕ, ◌+◌, ◌-◌, ◌<◌}
-use native.Mathlib.Omega.{arith}
-use mathlib.Core.Path.{◌≡◌, sym, ◌∙◌}
-use mathlib.Core.Bool.{Bool, true, false}
-use mathlib.Core.List.{List, [], ◌∷◌, ◌++◌, map}
-use lib.ListN.{get_or, length, set, length-set}
-use lib.Seq.{get_or-set_same, get_or-set_other}
+use Rattle.std.proofs.Common.{ℕ, ◌+◌, ◌-◌, ◌<◌, arith, ◌≡◌, sym, ◌∙◌, Bool, true, false, List, [], ◌∷◌, ◌++◌, map, get_or, length, set, length-set, get_or-set_same, get_or-set_other}
+use Rattle.std.proofs.lemmas.Bool.{false_from_ne_true}
 use Rattle.rules.specs.Basics.{pick, mem, keep, ascending, set_all}
 use Rattle.rules.specs.Netlist.{Netlist, operands_of}
 use Rattle.rules.specs.Cells.{Slot, blank, ready, spent, keeps, is_spent, those, cell_of, released, State, place, set_cells, all_spent}
-use Rattle.rules.proofs.Laws.{no_way}
-use Rattle.rules.proofs.Lists.{absent, keep_mem, length-set_all}
-use Rattle.claims.proofs.Slots.{known, is_spent_lem, those_in, those_asc, cell_at, cells_mem, set_all_at}
+use Rattle.rules.proofs.Lists.{keep_mem, length-set_all, known}
+use Rattle.claims.proofs.Slots.{is_spent_lem, those_in, those_asc, cell_at, cells_mem, set_all_at}
 use Rattle.claims.proofs.Served.{present, present_cases, released_more, released_reader, released_input}
 use Rattle.claims.proofs.Executing.{Turn}
 
@@ -26,7 +20,7 @@ pub record Kept (N : Netlist) (row : ℕ) (st : State) : Type 0 where
 
 module _ (N : Netlist) (row : ℕ) (st : State) (I : Kept N row st) (g c : ℕ) (turn : Turn N st.done g) (rd : get_or st.slots c blank ≡ ready) where
   pub in_row_lem : c < length st.slots
-  in_row_lem = known st.slots c ready rd (λ e. no_way (cc))
+  in_row_lem = known st.slots c ready rd (λ e. cc)
 
   pub operand_kept : (o : ℕ) → mem o (operands_of N g) ≡ true → get_or st.slots (cell_of st.slots o) blank ≡ keeps o
   unfolding operands_of
@@ -43,21 +37,25 @@ module _ (N : Netlist) (row : ℕ) (st : State) (I : Kept N row st) (g c : ℕ) 
   abbrev pub base : List Slot
   base = set st.slots c (keeps g)
 
+  -- who is released once the gate has been executed
+  abbrev freed : ℕ → Bool
+  freed = released N (st.done ++ (g ∷ []))
+
   gone : List ℕ
-  gone = map (cell_of st.slots) (keep (released N (st.done ++ (g ∷ []))) (operands_of N g))
+  gone = map (cell_of st.slots) (keep freed (operands_of N g))
 
   pub other : (x s : ℕ) → get_or st.slots x blank ≡ keeps s → get_or base x blank ≡ keeps s
-  other x s e = get_or-set_other st.slots c x (keeps g) blank (λ r. no_way (let e' = rw r at e in cc)) ∙ e
+  other x s e = get_or-set_other st.slots c x (keeps g) blank (λ r. let e' = rw r at e in cc) ∙ e
 
-  not_gone : (x s : ℕ) → get_or base x blank ≡ keeps s → released N (st.done ++ (g ∷ [])) s ≡ false → mem x gone ≡ false
+  not_gone : (x s : ℕ) → get_or base x blank ≡ keeps s → freed s ≡ false → mem x gone ≡ false
   unfolding gone
-  not_gone x s e f = absent (mem x gone) (λ m.
-      let (o, u, v) = cells_mem st.slots (keep (released N (st.done ++ (g ∷ []))) (operands_of N g)) x m in
-      let (p, q) = keep_mem (released N (st.done ++ (g ∷ []))) (operands_of N g) o u in
+  not_gone x s e f = false_from_ne_true (mem x gone) (λ m.
+      let (o, u, v) = cells_mem st.slots (keep freed (operands_of N g)) x m in
+      let (p, q) = keep_mem freed (operands_of N g) o u in
       let k = other (cell_of st.slots o) o (operand_kept o p) in
       let e' = rw v at e in
       let same : o ≡ s = cc in
-      no_way (let q' = rw same at q in cc))
+      let q' = rw same at q in cc)
 
   after_at : (x : ℕ) → x < length st.slots → get_or after x blank ≡ pick (mem x gone) spent (get_or base x blank)
   unfolding place gone
@@ -76,17 +74,17 @@ module _ (N : Netlist) (row : ℕ) (st : State) (I : Kept N row st) (g c : ℕ) 
       go true f = absurd (k (sym f))
       go false f = f
 
-  still : (x s : ℕ) → released N (st.done ++ (g ∷ [])) s ≡ false → get_or base x blank ≡ keeps s → get_or after x blank ≡ keeps s
+  still : (x s : ℕ) → freed s ≡ false → get_or base x blank ≡ keeps s → get_or after x blank ≡ keeps s
   unfolding pick
   still x s f e =
-      after_at x (omega (arith, known base x (keeps s) e (λ q. no_way (cc)), length-set st.slots c (keeps g))) ∙ rw (not_gone x s e f) e
+      after_at x (omega (arith, known base x (keeps s) e (λ q. cc), length-set st.slots c (keeps g))) ∙ rw (not_gone x s e f) e
 
   pub place_keeps : Kept N row (place N g c st)
   unfolding place
   place_keeps = record {
     size = after_size ∙ I.size;
     input = λ x h. still x x (released_input N (st.done ++ (g ∷ [])) x h) (other x x (I.input x h));
-    needed = λ s e f. present_cases N ((x : ℕ) × (get_or after x blank ≡ keeps s)) st.done g s e
+    needed = λ s e f. present_cases N st.done g s e
         (λ p. let (x, q) = I.needed s p (released_more N st.done g s f) in (x, still x s f (other x s q)))
         (λ p. (c, still c s f (get_or-set_same st.slots c (keeps g) blank in_row_lem ∙ rw p)));
   }
@@ -103,10 +101,10 @@ pub record Sparing (renew : List Slot → List ℕ) : Type 0 where
 pub all_spent_sparing : Sparing all_spent
 unfolding all_spent
 all_spent_sparing = record {
-  keeper = λ l c s e. absent (mem c (those is_spent 0 l)) (λ m.
+  keeper = λ l c s e. false_from_ne_true (mem c (those is_spent 0 l)) (λ m.
       let (x, p, h, q) = those_in is_spent l 0 c m in
       let z : x ≡ c = omega arith in
-      no_way (let k = rw z at (is_spent_lem (get_or l x blank) q) in cc));
+      let k = rw z at (is_spent_lem (get_or l x blank) q) in cc);
   inside = λ l c m. let (x, p, h, q) = those_in is_spent l 0 c m in omega arith;
   rising = λ l. those_asc is_spent l 0;
 }
@@ -114,7 +112,7 @@ all_spent_sparing = record {
 module _ (N : Netlist) (row : ℕ) (st : State) (cs : List ℕ) (spares : (c s : ℕ) → get_or st.slots c blank ≡ keeps s → mem c cs ≡ false) where
   set_still : (x s : ℕ) → get_or st.slots x blank ≡ keeps s → get_or (set_all ready cs st.slots) x blank ≡ keeps s
   unfolding pick
-  set_still x s e = set_all_at ready cs st.slots x blank (known st.slots x (keeps s) e (λ q. no_way (cc))) ∙ rw (spares x s e) e
+  set_still x s e = set_all_at ready cs st.slots x blank (known st.slots x (keeps s) e (λ q. cc)) ∙ rw (spares x s e) e
 
   pub set_keeps : Kept N row st → Kept N row (set_cells N cs st)
   unfolding set_cells

@@ -1,22 +1,14 @@
 -- The mapping rule answers 9 exactly when there is no work cell or a gate is met with no cell ready and none spent.
 -- Assumes nothing.
-use Prim.Native.Nat.{ℕ, ◌-◌, ◌<◌, ◌≤◌}
-use native.Mathlib.Omega.{arith}
-use mathlib.Core.Path.{◌≡◌, refl, sym, ◌∙◌}
-use mathlib.Core.Logic.{◌⊎◌, inl, inr}
-use mathlib.Core.Bool.{Bool, true, false}
-use mathlib.Core.List.{List}
-use lib.Dec.{ltb}
-use borrow.Author.Tests.{ltb-false, le-ltb, le-leb, lt-leb}
-use Rattle.rules.specs.declared.Refusal.{Refusal}
+use Rattle.std.proofs.Common.{ℕ, ◌-◌, ◌<◌, ◌≤◌, arith, ◌≡◌, refl, sym, ◌∙◌, ◌⊎◌, inl, inr, Bool, true, false, List, ltb, ltb-false, le-ltb, le-leb}
+use borrow.Author.Tests.{lt-leb}
 use Rattle.rules.specs.Basics.{within}
 use Rattle.rules.specs.Form.{Form, form01}
-use Rattle.rules.specs.Refusals.{good, refused, refuse, ◌>>=◌, ◌>>◌, require}
+use Rattle.rules.specs.Refusals.{good, refused, ◌>>=◌, ◌>>◌, require}
 use Rattle.rules.specs.Netlist.{Netlist, netlist_of}
 use Rattle.rules.specs.Order.{order}
 use Rattle.rules.specs.Cells.{State, execute_gates, all_spent, opening}
 use Rattle.rules.specs.Mapping.{mapped_by, mapped, mapped_text}
-use Rattle.rules.proofs.Laws.{no_way}
 use Rattle.claims.specs.NoRoom.{Stuck, NoRoomExactly, NoRoomOnly}
 use Rattle.rules.proofs.Answers.{good_same, refused_bind, refused_require}
 use Rattle.rules.proofs.Lists.{within_true, within_holds}
@@ -54,35 +46,32 @@ module _ (N : Netlist) (row : ℕ) where
   }
 
   -- on netlists: a refusal says that there is no room, and no room is refused with 9
-  no_room : (x : Refusal) → mapped N row ≡ refused x → (row ≤ N.inputs) ⊎ Stuck N row
+  no_room : (x : ℕ) → mapped N row ≡ refused x → (row ≤ N.inputs) ⊎ Stuck N row
   unfolding mapped mapped_by
   no_room x e =
-      refused_require ((row ≤ N.inputs) ⊎ Stuck N row) (ltb N.inputs row) 9 _ x e (λ p _. inl (ltb-false N.inputs row p))
-      λ _ f. refused_bind ((row ≤ N.inputs) ⊎ Stuck N row) (execute_gates N all_spent (order N) first) _ x f
-      (λ p. inr (met_stuck (refused_met N all_spent all_spent_sparing (order N) first x p))) λ st _ q. absurd (no_way (cc))
+      refused_require (ltb N.inputs row) 9 _ x e (λ p _. inl (ltb-false N.inputs row p))
+      λ _ f. refused_bind (execute_gates N all_spent (order N) first) _ x f
+      (λ p. inr (met_stuck (refused_met N all_spent all_spent_sparing (order N) first x p))) λ st _ q. cc
 
-  nine : (row ≤ N.inputs) ⊎ Stuck N row → mapped N row ≡ refuse 9
+  nine : (row ≤ N.inputs) ⊎ Stuck N row → mapped N row ≡ refused 9
   unfolding mapped mapped_by ◌>>=◌ ◌>>◌ require
   nine (inl h) = rw (le-ltb N.inputs row h)
   nine (inr T) = go (ltb N.inputs row)
     where
-      go : (t : Bool) → (require t 9 >> mapped_by N (order N) all_spent first row) ≡ refuse 9
+      go : (t : Bool) → (require t 9 >> mapped_by N (order N) all_spent first row) ≡ refused 9
       go true = rw (met_refused N all_spent (order N) first (stuck_met T))
       go false = refl
 
 module _ (F : Form) (row : ℕ) (text : List ℕ) where
   -- 8, netlist, 9: neither of the first two is 9
-  nine_from : mapped_text F row text ≡ refuse 9 → (N : Netlist) × (netlist_of F text ≡ good N) × (within 2 F.row_most row ≡ true) × (mapped N row ≡ refuse 9)
+  nine_from : mapped_text F row text ≡ refused 9 → (N : Netlist) × (netlist_of F text ≡ good N) × (within 2 F.row_most row ≡ true) × (mapped N row ≡ refused 9)
   unfolding mapped_text
   nine_from e =
-      refused_require Goal (within 2 F.row_most row) 8 _ _ e (λ _ z. absurd (omega arith)) λ size a.
-      refused_bind Goal (netlist_of F text) _ _ a (λ p. let h = netlist_refuses F text _ p in absurd (omega arith)) λ N read b.
-      refused_bind Goal (mapped N row) _ _ b (λ p. (N, read, size, p)) λ S _ q. absurd (no_way (cc))
-    where
-      Goal : Type 0
-      Goal = (N : Netlist) × (netlist_of F text ≡ good N) × (within 2 F.row_most row ≡ true) × (mapped N row ≡ refuse 9)
+      refused_require (within 2 F.row_most row) 8 _ _ e (λ _ z. absurd (omega arith)) λ size a.
+      refused_bind (netlist_of F text) _ _ a (λ p. let h = netlist_refuses F text _ p in absurd (omega arith)) λ N read b.
+      refused_bind (mapped N row) _ _ b (λ p. (N, read, size, p)) λ S _ q. cc
 
-  nine_text : (N : Netlist) → netlist_of F text ≡ good N → within 2 F.row_most row ≡ true → mapped N row ≡ refuse 9 → mapped_text F row text ≡ refuse 9
+  nine_text : (N : Netlist) → netlist_of F text ≡ good N → within 2 F.row_most row ≡ true → mapped N row ≡ refused 9 → mapped_text F row text ≡ refused 9
   unfolding mapped_text ◌>>=◌ ◌>>◌ require
   nine_text N p q r = rw (q, p, r)
 
@@ -95,7 +84,7 @@ no_room_exactly row text out N read h k = (
   λ c. refusal_delivered row text out _ (nine_text form01 row text N read (within_holds 2 256 row h k) (nine N row c)),
 )
 
-row_refused : (row : ℕ) (text : List ℕ) → (row < 2) ⊎ (256 < row) → mapped_text form01 row text ≡ refuse 8
+row_refused : (row : ℕ) (text : List ℕ) → (row < 2) ⊎ (256 < row) → mapped_text form01 row text ≡ refused 8
 unfolding form01 mapped_text ◌>>◌ require
 row_refused row text (inl h) = rw (lt-leb 2 row h)
 row_refused row text (inr h) = rw (le-leb 2 row (omega arith), lt-leb row 256 h)
@@ -113,5 +102,5 @@ no_room_only = record {
       (N, p, w.0, w.1);
 }
   where
-    reader_refused : (row : ℕ) (text : List ℕ) (x : Refusal) → 2 ≤ row → row ≤ 256 → netlist_of form01 text ≡ refused x → mapped_text form01 row text ≡ refused x
+    reader_refused : (row : ℕ) (text : List ℕ) (x : ℕ) → 2 ≤ row → row ≤ 256 → netlist_of form01 text ≡ refused x → mapped_text form01 row text ≡ refused x
     reader_refused row text x h k p = unfold mapped_text ◌>>=◌ ◌>>◌ require in rw (le-leb 2 row h, le-leb row 256 k, p)

@@ -1,31 +1,24 @@
 -- A netlist that is refused is refused with 1 to 7.
 -- Assumes nothing.
-use Prim.Native.Nat.{ℕ, zero, suc, ◌+◌, ◌≤◌}
-use native.Mathlib.Omega.{arith}
-use mathlib.Core.Path.{◌≡◌}
-use mathlib.Core.Bool.{Bool, true, false, ◌&&◌, not}
-use mathlib.Core.List.{List, [], ◌∷◌, ◌++◌}
+use Rattle.std.proofs.Common.{ℕ, zero, suc, ◌+◌, ◌≤◌, arith, ◌≡◌, Bool, true, false, ◌&&◌, not, List, [], ◌∷◌, ◌++◌, eqb, ltb, leb, get_or, length}
 use mathlib.Core.Option.{Option, none, some}
-use lib.Dec.{eqb, ltb, leb}
-use lib.ListN.{get_or, length}
-use Rattle.rules.specs.declared.Refusal.{Refusal}
 use Rattle.rules.specs.Basics.{within, all, repeats, ascending}
 use Rattle.rules.specs.Form.{Form, two}
-use Rattle.rules.specs.Refusals.{Res, good, refused, refuse, ◌>>=◌, ◌>>◌, require, or_refuse}
+use Rattle.rules.specs.Refusals.{Res, good, refused, ◌>>=◌, ◌>>◌, require, or_refuse}
 use Rattle.rules.specs.Lines.{is_line, first_line, line, nothing, numbers, fields}
 use Rattle.rules.specs.Netlist.{Netlist, due, Head, head_of, gate_of, output_of, lines, netlist_lines, all_used, twins, well_formed, netlist_of}
-use Rattle.rules.proofs.Laws.{no_way, by_pick}
+use Rattle.rules.proofs.Laws.{by_pick}
 use Rattle.rules.proofs.Answers.{refused_same}
 
 -- what is refused is refused with 1 to 7
 abbrev pub Refuses : {A : Type 0} → Res A → Type 0
-Refuses r = (x : Refusal) → r ≡ refused x → (1 ≤ x.number) × (x.number ≤ 7)
+Refuses r = (x : ℕ) → r ≡ refused x → (1 ≤ x) × (x ≤ 7)
 
 never : {A : Type 0} (a : A) → Refuses (good a)
-never a x e = absurd (no_way (cc))
+never a x e = cc
 
-with_number : (A : Type 0) (n : ℕ) → (1 ≤ n) × (n ≤ 7) → Refuses {A = A} (refuse n)
-with_number A n h x e = let z = refused_same A (record { number = n }) x e in omega arith
+with_number : (A : Type 0) (n : ℕ) → (1 ≤ n) × (n ≤ 7) → Refuses {A = A} (refused n)
+with_number A n h x e = let z = refused_same A n x e in omega arith
 
 bind_refuses : {A B : Type 0} (r : Res A) (k : A → Res B) → Refuses r → ((a : A) → Refuses (k a)) → Refuses (r >>= k)
 unfolding ◌>>=◌

@@ -1,50 +1,29 @@
 -- The opening: inputs are kept, the lowest `opened` work cells are ready, the rest are blank. The book agrees after its one set line.
 -- Assumes nothing.
-use Prim.Native.Nat.{ℕ, zero, suc, ◌+◌, ◌-◌, ◌<◌, ◌≤◌}
-use native.Mathlib.Omega.{arith}
+use Rattle.std.proofs.Common.{ℕ, ◌+◌, ◌-◌, ◌<◌, ◌≤◌, arith, ◌≡◌, refl, ap, ◌∙◌, Bool, true, false, ◌||◌, List, [], ◌++◌, ltb, ltb-true, le-ltb, get_or, replicate, length-append}
 use native.Mathlib.Decide.{dec_lt}
-use mathlib.Core.Path.{◌≡◌, refl, ap, ◌∙◌}
-use mathlib.Core.Bool.{Bool, true, false, ◌||◌}
-use mathlib.Core.List.{List, [], ◌++◌, map}
 use mathlib.Core.Option.{some}
-use lib.Dec.{ltb}
-use borrow.Author.Tests.{ltb-true, le-ltb}
-use lib.ListN.{get_or, replicate, length-append, length-map, length-replicate}
+use lib.ListN.{length-map, length-replicate, get_or-append, get_or-replicate}
+use lib.Seq.{get_or-append_right}
+use Rattle.rules.specs.Sequence.{Set}
+use Rattle.std.proofs.lemmas.List.Elements.{All-nil, All-cons}
+use Rattle.std.proofs.lemmas.Bool.{false_from_ne_true}
 use Rattle.rules.specs.Basics.{pick, mem, upto, set_all}
 use Rattle.rules.specs.Refusals.{◌>>=◌}
 use Rattle.rules.specs.Netlist.{Netlist}
 use Rattle.rules.specs.Cells.{Slot, blank, ready, keeps, is_ready, lowest, opening}
 use Rattle.rules.specs.Book.{Cell, unknown, ready as set_ready, holds, first_book, fixed, step, steps}
-use Rattle.rules.proofs.Laws.{no_way, mem-nil}
-use Rattle.rules.proofs.Lists.{absent, none_of, upto_mem, upto_in, length-upto, asc_upto, Each, length-set_all}
-use Rattle.claims.proofs.FirstBook.{front, book_size}
+use Rattle.rules.proofs.Laws.{mem-nil}
+use Rattle.rules.proofs.Lists.{none_of, upto_mem, upto_in, length-upto, asc_upto, length-set_all, all_default}
+use Rattle.claims.proofs.FirstBook.{front, behind, book_size}
 use Rattle.claims.proofs.Slots.{lowest_found, set_all_at}
 use Rattle.claims.proofs.Served.{present}
 use Rattle.claims.proofs.Keeping.{Kept}
 use Rattle.claims.proofs.Agreeing.{Agrees}
-use Rattle.claims.proofs.Fine.{Fine, AllFine}
-
--- ---- a list in parts: numbered, then one thing, then another
-
-behind : {A : Type 0} (f : ℕ → A) (a n j : ℕ) (xs : List A) (d : A) → get_or (map f (upto a n) ++ xs) (n + j) d ≡ get_or xs j d
-unfolding upto
-behind f a zero j xs d = let q : 0 + j ≡ j = omega arith in rw q
-behind f a (suc n) j xs d = let q : suc n + j ≡ suc (n + j) = omega arith in rw q (behind f (suc a) n j xs d)
-
-many : {A : Type 0} (v : A) (m j : ℕ) (ys : List A) (d : A) → j < m → get_or (replicate m v ++ ys) j d ≡ v
-many v zero j ys d h = absurd (omega arith)
-many v (suc m) zero ys d h = refl
-many v (suc m) (suc j) ys d h = many v m j ys d (omega arith)
-
-past : {A : Type 0} (v : A) (m k j : ℕ) (d : A) → m ≤ j → get_or (replicate m v ++ replicate k d) j d ≡ d
-past v zero zero j d h = refl
-past v zero (suc k) zero d h = refl
-past v zero (suc k) (suc j) d h = past v zero k j d (omega arith)
-past v (suc m) k zero d h = absurd (omega arith)
-past v (suc m) k (suc j) d h = past v m k j d (omega arith)
+use Rattle.claims.proofs.Fine.{FineSet, Fine, AllFine}
 
 upto_not : (n k c : ℕ) → c < n → mem c (upto n k) ≡ false
-upto_not n k c h = absent (mem c (upto n k)) (λ e. let z = upto_in n k c e in omega arith)
+upto_not n k c h = false_from_ne_true (mem c (upto n k)) (λ e. let z = upto_in n k c e in omega arith)
 
 module _ (N : Netlist) (row opened : ℕ) (room : N.inputs + opened ≤ row) where
   abbrev first : List Slot
@@ -55,19 +34,25 @@ module _ (N : Netlist) (row opened : ℕ) (room : N.inputs + opened ≤ row) whe
 
   at_input : (c : ℕ) → c < N.inputs → get_or first c blank ≡ keeps c
   unfolding opening work
-  at_input c h = let z : 0 + c ≡ c = omega arith in front keeps 0 N.inputs c work blank h ∙ ap keeps z
+  at_input c h = front keeps N.inputs c work blank h
 
   at_work : (c : ℕ) → N.inputs ≤ c → get_or first c blank ≡ get_or work (c - N.inputs) blank
   unfolding opening work
-  at_work c h = let z : N.inputs + (c - N.inputs) ≡ c = omega arith in rw z at (behind keeps 0 N.inputs (c - N.inputs) work blank)
+  at_work c h = behind keeps N.inputs c work blank h
 
   at_opened : (c : ℕ) → N.inputs ≤ c → c < N.inputs + opened → get_or first c blank ≡ ready
   unfolding work
-  at_opened c h k = at_work c h ∙ many ready opened (c - N.inputs) (replicate (row - N.inputs - opened) blank) blank (omega arith)
+  at_opened c h k =
+      at_work c h
+      ∙ get_or-append (replicate opened ready) (replicate (row - N.inputs - opened) blank) blank (c - N.inputs) (rw length-replicate (omega arith))
+      ∙ get_or-replicate opened (c - N.inputs) ready blank (omega arith)
 
   at_rest : (c : ℕ) → N.inputs + opened ≤ c → get_or first c blank ≡ blank
   unfolding work
-  at_rest c h = at_work c (omega arith) ∙ past ready opened (row - N.inputs - opened) (c - N.inputs) blank (omega arith)
+  at_rest c h =
+      at_work c (omega arith)
+      ∙ get_or-append_right (replicate opened ready) (replicate (row - N.inputs - opened) blank) (c - N.inputs) blank (rw length-replicate (omega arith))
+      ∙ all_default (row - N.inputs - opened) _ blank
 
   -- some cell is ready at first
   pub ready_first : 1 ≤ opened → (c : ℕ) × (lowest is_ready 0 first ≡ some c)
@@ -91,7 +76,7 @@ module _ (N : Netlist) (row opened : ℕ) (room : N.inputs + opened ≤ row) whe
 
   book_input : (c : ℕ) → c < N.inputs → get_or (first_book N.inputs row) c unknown ≡ holds c
   unfolding first_book
-  book_input c h = let z : 0 + c ≡ c = omega arith in front holds 0 N.inputs c (replicate (row - N.inputs) unknown) unknown h ∙ ap holds z
+  book_input c h = front holds N.inputs c (replicate (row - N.inputs) unknown) unknown h
 
   book_at : (c : ℕ) → c < row → get_or opened_book c unknown ≡ pick (mem c (upto N.inputs opened)) set_ready (get_or (first_book N.inputs row) c unknown)
   unfolding opened_book
@@ -107,25 +92,24 @@ module _ (N : Netlist) (row opened : ℕ) (room : N.inputs + opened ≤ row) whe
   }
     where
       set' : (c : ℕ) → get_or first c blank ≡ ready → Dec (c < N.inputs) → Dec (c < N.inputs + opened) → get_or opened_book c unknown ≡ set_ready
-      set' c e (yes p) d = let z = at_input c p in absurd (no_way (cc))
+      set' c e (yes p) d = let z = at_input c p in cc
       set' c e (no q) (yes l) = book_at c (omega arith) ∙ rw (upto_mem N.inputs opened c (omega arith) l)
-      set' c e (no q) (no l) = let z = at_rest c (omega arith) in absurd (no_way (cc))
+      set' c e (no q) (no l) = let z = at_rest c (omega arith) in cc
 
       held' : (c s : ℕ) → get_or first c blank ≡ keeps s → Dec (c < N.inputs) → Dec (c < N.inputs + opened) → get_or opened_book c unknown ≡ holds s
       held' c s e (yes p) d =
           let z = at_input c p in
           let same : c ≡ s = cc in
           book_at c (omega arith) ∙ rw (upto_not N.inputs opened c p) (book_input c p ∙ ap holds same)
-      held' c s e (no q) (yes l) = let z = at_opened c (omega arith) l in absurd (no_way (cc))
-      held' c s e (no q) (no l) = let z = at_rest c (omega arith) in absurd (no_way (cc))
+      held' c s e (no q) (yes l) = let z = at_opened c (omega arith) l in cc
+      held' c s e (no q) (no l) = let z = at_rest c (omega arith) in cc
 
   pub opening_fine : 1 ≤ opened → AllFine row (opening N opened row).code
-  unfolding opening Each Fine
-  opening_fine h = (
-    record {
-      some_cell = omega (arith, length-upto N.inputs opened);
-      rising = asc_upto N.inputs opened;
-      inside = λ c m. let z = upto_in N.inputs opened c m in omega arith;
-    },
-    tt,
-  )
+  unfolding opening Fine
+  opening_fine h =
+      let set : FineSet row (upto N.inputs opened) = record {
+        some_cell = omega (arith, length-upto N.inputs opened);
+        rising = asc_upto N.inputs opened;
+        inside = λ c m. let z = upto_in N.inputs opened c m in omega arith;
+      } in
+      All-cons (Fine row) (Set (upto N.inputs opened)) [] set (All-nil (Fine row))

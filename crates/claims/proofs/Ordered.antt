@@ -1,18 +1,13 @@
 -- What a true order gives to whoever executes gates along it.
 -- Assumes nothing.
-use Prim.Native.Nat.{ℕ}
-use mathlib.Core.Path.{◌≡◌, refl, sym, ◌∙◌}
-use mathlib.Core.Bool.{true, false}
-use mathlib.Core.List.{List, [], ◌∷◌, ◌++◌, append_assoc}
-use lib.Dec.{leb}
-use borrow.Author.Tests.{leb-true}
-use lib.ListN.{length}
+use Rattle.std.proofs.Common.{ℕ, ◌≡◌, refl, sym, ◌∙◌, true, false, List, [], ◌∷◌, ◌++◌, append_assoc, leb, leb-true, length}
+use Rattle.std.proofs.lemmas.Bool.{or_parts, or_right, false_from_ne_true}
 use Rattle.rules.specs.Basics.{mem, repeats}
 use Rattle.rules.specs.Netlist.{Netlist, operands_of, gate_signals}
 use Rattle.rules.specs.Weight.{gate_operands}
-use Rattle.rules.proofs.Laws.{no_way, or_false, or_right, cons_cases, cons_self, mem-append, mem-nil}
+use Rattle.rules.proofs.Laws.{cons_cases, cons_self, mem-append, mem-nil}
 use Rattle.claims.specs.TrueOrder.{TrueOrder}
-use Rattle.rules.proofs.Lists.{absent, keep_mem, upto_mem, upto_in}
+use Rattle.rules.proofs.Lists.{keep_mem, upto_mem, upto_in}
 use Rattle.claims.proofs.Visits.{Runs}
 use Rattle.rules.proofs.Reading.{Gate}
 use Rattle.claims.proofs.Whole.{gate_operands_of}
@@ -22,9 +17,9 @@ first_time : (d : List ℕ) (g : ℕ) (l : List ℕ) → repeats (d ++ (g ∷ l)
 unfolding repeats
 first_time [] g l e m = mem-nil g m
 first_time (x ∷ d) g l e m =
-    let (p, q) = or_false (mem x (d ++ (g ∷ l))) (repeats (d ++ (g ∷ l))) e in
+    let (p, q) = or_parts (mem x (d ++ (g ∷ l))) (repeats (d ++ (g ∷ l))) e in
     cons_cases ⊥ g x d m
-    (λ z. no_way (let h : mem x (d ++ (g ∷ l)) ≡ true = rw (← z) (mem-append g d (g ∷ l) ∙ or_right (mem g d) (mem g (g ∷ l)) (cons_self g l)) in cc))
+    (λ z. let h : mem x (d ++ (g ∷ l)) ≡ true = rw (← z) (mem-append g d (g ∷ l) ∙ or_right (mem g d) (mem g (g ∷ l)) (cons_self g l)) in cc)
     (λ z. first_time d g l q z)
 
 module _ (N : Netlist) (gs : List ℕ) (T : TrueOrder N gs) where
@@ -33,7 +28,7 @@ module _ (N : Netlist) (gs : List ℕ) (T : TrueOrder N gs) where
   runs_from d [] e = tt
   runs_from d (g ∷ l) e = (
     λ o m. let (u, v) = keep_mem (leb N.inputs) (operands_of N g) o m in T.operands_first d l g o e u (leb-true N.inputs o v),
-    absent (mem g d) (first_time d g l (rw e at T.once)),
+    false_from_ne_true (mem g d) (first_time d g l (rw e at T.once)),
     runs_from (d ++ (g ∷ [])) l (e ∙ sym (append_assoc d (g ∷ []) l)),
   )
 

@@ -1,50 +1,32 @@
 -- The calls' outcomes where nothing is refused.
-use Prim.Native.Nat.{ℕ, zero, suc, ◌<◌, ◌≤◌}
-use native.Mathlib.Omega.{arith}
-use mathlib.Core.Path.{◌≡◌, refl, ap, ◌∙◌}
-use mathlib.Core.Bool.{Bool, true}
-use mathlib.Core.List.{List, [], ◌∷◌, ◌++◌, map}
-use lib.Dec.{eqb, leb}
-use borrow.Author.Tests.{eqb-true, eq-eqb, le-ltb}
-use lib.ListN.{get_or, length, take, drop, length-map, get_or-append}
-use lib.Seq.{length-take-le}
+use Rattle.std.proofs.Common.{ℕ, ◌<◌, ◌≤◌, arith, ◌≡◌, ◌∙◌, true, List, ◌++◌, map, eqb, leb, eqb-true, eq-eqb, le-ltb, get_or, length, take, drop, length-take-le}
+use lib.ListN.{length-map, get_or-append}
+use Rattle.std.proofs.lemmas.List.Elements.{All-take}
+use Rattle.std.proofs.lemmas.List.Sums.{AllPass-from_list_all, list_all-from_AllPass}
+use Rattle.std.proofs.lemmas.Bool.{and_parts}
 use Rattle.std.proofs.lemmas.List.{get_or-map}
 use Rattle.rules.specs.Basics.{all}
 use Rattle.rules.specs.Form.{form01}
-use Rattle.rules.specs.Refusals.{Res, good, ◌>>=◌, ◌>>◌, require}
+use Rattle.rules.specs.Refusals.{good, ◌>>=◌, ◌>>◌, require}
 use Rattle.rules.specs.Netlist.{Netlist, netlist_of}
 use Rattle.rules.specs.Sequence.{Sequence, sequence_of}
 use Rattle.rules.specs.Values.{values, output_values, are_bits}
 use Rattle.rules.specs.Device.{run, cycles}
-use Rattle.rules.specs.Calls.{delivered, evaluate_outcome, ran_for, simulate_outcome}
-use Rattle.rules.proofs.Laws.{and_true}
-
--- ---- what is good goes on
-
-pub bind_on : {A B : Type 0} (r : Res A) (a : A) (k : A → Res B) → r ≡ good a → (r >>= k) ≡ k a
-unfolding ◌>>=◌
-bind_on r a k e = rw e
-
-pub require_on : {B : Type 0} (t : Bool) (n : ℕ) (k : Res B) → t ≡ true → (require t n >> k) ≡ k
-unfolding ◌>>◌ require
-require_on t n k e = rw e
+use Rattle.rules.specs.Calls.{delivered, evaluate_outcome, simulate_outcome}
 
 -- ---- simulate
 
 pub simulates : (text row : List ℕ) (budget : ℕ) (S : Sequence) → sequence_of form01 text ≡ good S → are_bits S.row row ≡ true
     → simulate_outcome text row budget ≡ record { answer = good (cycles budget S.instructions); lent = run budget S.instructions row }
-unfolding simulate_outcome
-simulates text row budget S e b =
-    ap (ran_for budget row) (bind_on (sequence_of form01 text) S _ e ∙ require_on (are_bits S.row row) 17 _ b)
+unfolding simulate_outcome ◌>>=◌ ◌>>◌ require
+simulates text row budget S e b = rw (e, b)
 
 -- ---- evaluate
 
 pub evaluates : (text ins out : List ℕ) (N : Netlist) → netlist_of form01 text ≡ good N → are_bits N.inputs ins ≡ true → length N.outputs ≤ length out
     → evaluate_outcome text ins out ≡ record { answer = good (length N.outputs); lent = output_values N ins ++ drop (length N.outputs) out }
-unfolding evaluate_outcome
-evaluates text ins out N e b h =
-    ap (λ (r : Res (List ℕ)). delivered r out) (bind_on (netlist_of form01 text) N _ e ∙ require_on (are_bits N.inputs ins) 17 _ b)
-    ∙ fills (output_values N ins) count
+unfolding evaluate_outcome ◌>>=◌ ◌>>◌ require
+evaluates text ins out N e b h = rw (e, b) (fills (output_values N ins) count)
   where
     count : length (output_values N ins) ≡ length N.outputs
     count = length-map N.outputs _
@@ -63,20 +45,14 @@ output_at N ins rest k h =
 
 -- ---- bits
 
-all_take : (p : ℕ → Bool) (n : ℕ) (l : List ℕ) → all p l ≡ true → all p (take n l) ≡ true
-unfolding all
-all_take p zero l e = refl
-all_take p (suc n) [] e = refl
-all_take p (suc n) (a ∷ l) e = let (u, v) = and_true (p a) (all p l) e in rw (u, all_take p n l v)
-
 pub bits_length : (n : ℕ) (l : List ℕ) → are_bits n l ≡ true → length l ≡ n
 unfolding are_bits
-bits_length n l e = eqb-true (length l) n (and_true (eqb (length l) n) (all (λ b. leb b 1) l) e).0
+bits_length n l e = eqb-true (length l) n (and_parts (eqb (length l) n) (all (λ b. leb b 1) l) e).0
 
 -- the first of a row's bits are bits
 pub bits_take : (m n : ℕ) (l : List ℕ) → m ≤ n → are_bits n l ≡ true → are_bits m (take m l) ≡ true
 unfolding are_bits
 bits_take m n l h e =
-    let (p, q) = and_true (eqb (length l) n) (all (λ b. leb b 1) l) e in
+    let (p, q) = and_parts (eqb (length l) n) (all (λ b. leb b 1) l) e in
     let len = eqb-true (length l) n p in
-    rw (eq-eqb (length (take m l)) m (length-take-le m l (omega arith)), all_take (λ b. leb b 1) m l q)
+    rw (eq-eqb (length (take m l)) m (length-take-le m l (omega arith)), list_all-from_AllPass (λ b. leb b 1) (take m l) (All-take (λ b. leb b 1 ≡ true) m l (AllPass-from_list_all (λ b. leb b 1) l q)))

@@ -1,20 +1,16 @@
 -- The lines of instructions and places that are fine read back, in a form that fits.
 -- Assumes nothing.
-use Prim.Native.Nat.{ℕ, suc, ◌*◌, ◌<◌, ◌≤◌}
-use native.Mathlib.Omega.{arith}
-use mathlib.Core.Path.{◌≡◌, refl}
-use mathlib.Core.List.{List, [], ◌∷◌, ◌++◌}
-use lib.Dec.{ltb}
-use borrow.Author.Tests.{eq-eqb, ne_eqb, lt-ltb, le-leb}
-use lib.ListN.{length}
+use Rattle.std.proofs.Common.{ℕ, suc, ◌*◌, ◌<◌, ◌≤◌, arith, ◌≡◌, refl, ◌∙◌, List, [], ◌∷◌, ◌++◌, ltb, eq-eqb, ne_eqb, lt-ltb, le-leb, length}
+use Rattle.std.specs.List.{All}
+use Rattle.std.proofs.lemmas.Map.Steps.{length-le_from_distinct_below}
 use Rattle.rules.specs.Form.{Form, Width, one, two}
 use Rattle.rules.specs.Refusals.{good}
 use Rattle.rules.specs.Lines.{line, bytes_of, written}
 use Rattle.rules.specs.Sequence.{Instruction, Set, Nor, set_of, nor_of, instruction_of, place_of, instruction_text, place_text}
-use Rattle.rules.proofs.Laws.{cons_cases, cons_self, cons_more, mem-nil}
-use Rattle.rules.proofs.Lists.{all_of, asc_few, Each}
+use Rattle.rules.proofs.Laws.{cons_cases, mem-nil, mem_any}
+use Rattle.rules.proofs.Lists.{all_of, distinct, asc_once, Below, members}
 use Rattle.claims.proofs.Fine.{FineSet, FineNor, Fine}
-use Rattle.claims.proofs.ReadBack.{Below, line_back}
+use Rattle.claims.proofs.ReadBack.{line_back}
 use Rattle.claims.proofs.Bytes.{bytes, holding, numbers_back, place_back, bytes_length, bytes_below}
 use Rattle.claims.proofs.LinesBack.{Reads}
 
@@ -59,7 +55,7 @@ module _ (F : Form) (fits : Fits F) (row : ℕ) (small : row ≤ F.row_most) whe
       (omega arith) (short w cs n F.line_most few room)
 
   few : (cs : List ℕ) → FineSet row cs → length cs ≤ F.row_most
-  few cs f = omega (arith, asc_few 0 row cs f.rising (λ x m. let i = f.inside x m in omega arith))
+  few cs f = omega (arith, length-le_from_distinct_below cs row (distinct cs (asc_once cs f.rising)) (λ x e. f.inside x (mem_any x cs ∙ e)))
 
   set_rule : (cs : List ℕ) → FineSet row cs → instruction_of F row (F.set_kind ∷ bytes_of w cs) ≡ good (Set cs)
   unfolding instruction_of set_of
@@ -86,7 +82,7 @@ module _ (F : Form) (fits : Fits F) (row : ℕ) (small : row ≤ F.row_most) whe
         all_of (λ c. ltb c row) (c ∷ os) (λ x m. lt-ltb x row (f.inside x m)),
       )
 
-  instruction_back : (i : Instruction) → Fine row i → Reads F (instruction_of F row) (instruction_text F) i
+  pub instruction_back : (i : Instruction) → Fine row i → Reads F (instruction_of F row) (instruction_text F) i
   unfolding Fine instruction_text
   instruction_back (Set cs) f = record {
     bytes = F.set_kind ∷ bytes_of w cs;
@@ -99,11 +95,6 @@ module _ (F : Form) (fits : Fits F) (row : ℕ) (small : row ≤ F.row_most) whe
     rule_of = nor_rule c os f;
   }
 
-  pub instructions_back : (k : ℕ) (is : List Instruction) → Each (λ _. Fine row) k is → Each (λ _. Reads F (instruction_of F row) (instruction_text F)) k is
-  unfolding Each
-  instructions_back k [] e = tt
-  instructions_back k (i ∷ is) e = (instruction_back i e.0, instructions_back (suc k) is e.1)
-
   place_reads : (c : ℕ) → c < row → Reads F (place_of F row) (place_text F) c
   unfolding place_text place_of
   place_reads c h = record {
@@ -112,7 +103,5 @@ module _ (F : Form) (fits : Fits F) (row : ℕ) (small : row ≤ F.row_most) whe
     rule_of = rw (eq-eqb F.place_kind F.place_kind refl, place_back w c, lt-ltb c row h);
   }
 
-  pub places_back : (k : ℕ) (ps : List ℕ) → Below row ps → Each (λ _. Reads F (place_of F row) (place_text F)) k ps
-  unfolding Each
-  places_back k [] b = tt
-  places_back k (c ∷ ps) b = (place_reads c (b c (cons_self c ps)), places_back (suc k) ps (λ x m. b x (cons_more x c ps m)))
+  pub places_back : (ps : List ℕ) → Below row ps → All (Reads F (place_of F row) (place_text F)) ps
+  places_back ps b = members (Reads F (place_of F row) (place_text F)) ps (λ c m. place_reads c (b c m))

@@ -1,13 +1,9 @@
 -- Every sequence that the mapping rule writes passes the checker and reads well: along any true order, from any opening that fits, by any sparing rule of sets.
 -- Assumes nothing.
-use Prim.Native.Nat.{ℕ, ◌+◌, ◌<◌, ◌≤◌}
-use native.Mathlib.Omega.{arith}
-use mathlib.Core.Path.{◌≡◌, refl, ◌∙◌}
-use mathlib.Core.Bool.{true, false}
-use mathlib.Core.List.{List, [], ◌∷◌, map}
-use lib.Dec.{ltb}
-use borrow.Author.Tests.{eq-eqb}
-use lib.ListN.{get_or, length, set, length-map}
+use Rattle.std.proofs.Common.{ℕ, ◌+◌, ◌<◌, ◌≤◌, arith, ◌≡◌, refl, ◌∙◌, true, false, List, [], ◌∷◌, map, ltb, eq-eqb, get_or, length, set}
+use lib.ListN.{length-map}
+use Rattle.rules.proofs.Lists.{known}
+use Rattle.std.proofs.lemmas.Bool.{or_right}
 use Rattle.rules.specs.Basics.{mem, set_all}
 use Rattle.rules.specs.Refusals.{good, require, ◌>>=◌, ◌>>◌}
 use Rattle.rules.specs.Netlist.{Netlist}
@@ -15,12 +11,12 @@ use Rattle.rules.specs.Sequence.{Sequence}
 use Rattle.rules.specs.Cells.{Slot, blank, keeps, cell_of, State, execute_gates, opening}
 use Rattle.rules.specs.Mapping.{sequence_from, mapped_by}
 use Rattle.rules.specs.Book.{Cell, unknown, ready as set_ready, holds, is_holding, placed, checked}
-use Rattle.rules.proofs.Laws.{no_way, cons_more, cons_self, or_right}
+use Rattle.rules.proofs.Laws.{cons_more, cons_self}
 use Rattle.claims.specs.TrueOrder.{TrueOrder}
 use Rattle.rules.proofs.Answers.{good_same, from_bind}
 use Rattle.rules.proofs.Reading.{Well}
 use Rattle.claims.proofs.Ordered.{true_runs, true_gates, true_all}
-use Rattle.claims.proofs.Slots.{known, cell_at, cells_mem}
+use Rattle.claims.proofs.Slots.{cell_at, cells_mem}
 use Rattle.claims.proofs.Served.{present, released_output}
 use Rattle.claims.proofs.Executing.{executed_all}
 use Rattle.claims.proofs.Keeping.{Kept, place_keeps, Sparing, set_keeps}
@@ -63,7 +59,7 @@ module _ (N : Netlist) (W : Well N) (row : ℕ) (gs : List ℕ) (T : TrueOrder N
     as_many = length-map N.outputs (cell_of st.slots);
     inside = λ c m.
         let (o, u, v) = cells_mem st.slots N.outputs c m in
-        omega (arith, known st.slots (cell_of st.slots o) (keeps o) (output_kept o u) (λ q. no_way (cc)), I.kept.size);
+        omega (arith, known st.slots (cell_of st.slots o) (keeps o) (output_kept o u) (λ q. cc), I.kept.size);
     passed = rw (
       eq-eqb N.inputs N.inputs refl,
       eq-eqb (length N.outputs) (length N.outputs) refl,
@@ -73,7 +69,7 @@ module _ (N : Netlist) (W : Well N) (row : ℕ) (gs : List ℕ) (T : TrueOrder N
   }
     where
       output_present : (o : ℕ) → mem o N.outputs ≡ true → present N st.done o ≡ true
-      output_present o m = or_right (ltb o N.inputs) (mem o st.done) (rw d (true_all N gs T o (W.output o m)))
+      output_present o m = or_right (ltb o N.inputs) (mem o st.done) (rw d (true_all N gs T o (W.lines.output o m)))
 
       output_kept : (o : ℕ) → mem o N.outputs ≡ true → get_or st.slots (cell_of st.slots o) blank ≡ keeps o
       output_kept o m = let (x, k) = I.kept.needed o (output_present o m) (released_output N st.done o m) in cell_at st.slots o x k
@@ -105,7 +101,7 @@ module _ (N : Netlist) (W : Well N) (row : ℕ) (gs : List ℕ) (T : TrueOrder N
         → mapped_by N gs renew (opening N opened row) row ≡ good S → Right N row S
     unfolding mapped_by
     passing opened some_cell room S e =
-        from_bind (Right N row S) (execute_gates N renew gs (opening N opened row)) _ S e λ st p q.
+        from_bind (execute_gates N renew gs (opening N opened row)) _ S e λ st p q.
         let I : Invariant N row (opening N opened row) = record {
           kept = opening_keeps N row opened room;
           book = opened_book N row opened room;

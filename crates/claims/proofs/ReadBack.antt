@@ -1,24 +1,15 @@
 -- A written line reads back: its bytes, and the rest of the text.
 -- Assumes nothing.
-use Prim.Native.Nat.{ℕ, suc, ◌+◌, ◌*◌, ◌/◌, ◌%◌, ◌<◌, ◌≤◌}
-use native.Mathlib.Omega.{arith}
-use native.Mathlib.Numerals.{add-one}
+use Rattle.std.proofs.Common.{ℕ, suc, ◌+◌, ◌*◌, ◌/◌, ◌%◌, ◌<◌, ◌≤◌, arith, add-one, ◌≡◌, refl, ap, true, List, [], ◌∷◌, ◌++◌, eq-eqb, lt-ltb, le-ltb, le-leb, length, drop}
 use native.Mathlib.Decide.{dec_lt}
-use mathlib.Core.Path.{◌≡◌, refl, ap}
-use mathlib.Core.Bool.{true}
-use mathlib.Core.List.{List, [], ◌∷◌, ◌++◌}
-use borrow.Author.Tests.{eq-eqb, lt-ltb, le-ltb, le-leb, lt-leb}
-use lib.ListN.{length, drop}
+use borrow.Author.Tests.{lt-leb}
 use lib.Seq.{take-append_seam, drop-append-add, get_or-append_seam}
-use Rattle.rules.specs.Basics.{pick, mem}
+use Rattle.rules.proofs.Lists.{Below}
+use Rattle.rules.specs.Basics.{pick}
 use Rattle.rules.specs.Form.{Form}
 use Rattle.rules.specs.Refusals.{good}
 use Rattle.rules.specs.Lines.{is_digit, value_of, digits, is_line, bytes_in, first_line, line, digit_of, written}
 use Rattle.rules.proofs.Laws.{cons_more, cons_self}
-
--- every number of a list is below n
-abbrev pub Below : ℕ → List ℕ → Type 0
-Below n l = (x : ℕ) → mem x l ≡ true → x < n
 
 digit_is : (v : ℕ) → v < 16 → is_digit (digit_of v) ≡ true
 unfolding is_digit digit_of pick

@@ -1,11 +1,8 @@
 -- A sequence that is fine and within the limits reads back from its text.
 -- Assumes nothing.
-use Prim.Native.Nat.{ℕ, suc, ◌+◌, ◌-◌, ◌*◌, ◌<◌, ◌≤◌}
-use native.Mathlib.Omega.{arith}
-use mathlib.Core.Path.{◌≡◌, refl}
-use mathlib.Core.List.{List, [], ◌∷◌, ◌++◌, append-nil}
-use borrow.Author.Tests.{eq-eqb, lt-ltb, le-leb}
-use lib.ListN.{length}
+use Rattle.std.proofs.Common.{ℕ, suc, ◌+◌, ◌-◌, ◌*◌, ◌<◌, ◌≤◌, arith, ◌≡◌, refl, List, [], ◌∷◌, ◌++◌, append-nil, eq-eqb, lt-ltb, le-leb, length}
+use Rattle.std.proofs.lemmas.List.Elements.{All-weaker}
+use Rattle.rules.proofs.Lists.{Below}
 use Rattle.rules.specs.Form.{Form, Width, one, two}
 use Rattle.rules.specs.Refusals.{good, ◌>>=◌, ◌>>◌}
 use Rattle.rules.specs.Lines.{line, nothing, bytes_of}
@@ -13,10 +10,10 @@ use Rattle.rules.specs.Netlist.{lines}
 use Rattle.rules.specs.Sequence.{Sequence, sequence_head_of, instruction_of, place_of, sequence_of, head_text, instruction_text, place_text, texts, sequence_text}
 use Rattle.rules.proofs.Laws.{cons_self, cons_more}
 use Rattle.claims.proofs.Fine.{AllFine}
-use Rattle.claims.proofs.ReadBack.{Below, line_back}
+use Rattle.claims.proofs.ReadBack.{line_back}
 use Rattle.claims.proofs.Bytes.{bytes, holding, head_back, bytes_below}
 use Rattle.claims.proofs.LinesBack.{lines_back}
-use Rattle.claims.proofs.PartsBack.{Fits, cons_below, none_below, instructions_back, places_back}
+use Rattle.claims.proofs.PartsBack.{Fits, cons_below, none_below, instruction_back, places_back}
 
 -- a sequence within the numbers of a form, each part of which reads well
 pub record Writable (F : Form) (S : Sequence) : Type 0 where
@@ -85,7 +82,7 @@ module _ (F : Form) (fits : Fits F) (S : Sequence) (fine : Writable F S) where
   places_read : lines F (λ _. place_of F S.row) S.outputs 0 [] (texts (place_text F) S.places) ≡ good (record { got = S.places; tail = [] })
   places_read =
       rw (append-nil (texts (place_text F) S.places), fine.as_many) at
-      (lines_back F (place_of F S.row) (place_text F) S.places 0 (places_back F fits S.row fine.row.1 0 S.places fine.inside) 0 [] [])
+      (lines_back F (place_of F S.row) (place_text F) S.places (places_back F fits S.row fine.row.1 S.places fine.inside) 0 [] [])
 
   pub sequence_back : sequence_of F (sequence_text F S) ≡ good S
   unfolding sequence_of sequence_text ◌>>=◌ ◌>>◌ nothing
@@ -93,7 +90,7 @@ module _ (F : Form) (fits : Fits F) (S : Sequence) (fine : Writable F S) where
       rw (
         head_line_lem (texts (instruction_text F) S.instructions ++ texts (place_text F) S.places),
         head_rule,
-        lines_back F (instruction_of F S.row) (instruction_text F) S.instructions 0
-            (instructions_back F fits S.row fine.row.1 0 S.instructions fine.fine) 0 [] (texts (place_text F) S.places),
+        lines_back F (instruction_of F S.row) (instruction_text F) S.instructions
+            (All-weaker _ _ (instruction_back F fits S.row fine.row.1) S.instructions fine.fine) 0 [] (texts (place_text F) S.places),
         places_read,
       )

@@ -1,11 +1,5 @@
 -- The wrong programs break the demands at the exclusive or of document 01.
-use Prim.Native.Nat.{ℕ}
-use native.Mathlib.Omega.{arith}
-use mathlib.Core.Path.{◌≡◌, refl, sym, ap, ◌∙◌}
-use mathlib.Core.Bool.{Bool, true, false}
-use mathlib.Core.List.{List, [], ◌∷◌}
-use lib.Dec.{eqb}
-use lib.ListN.{get_or, length, take, replicate}
+use Rattle.std.proofs.Common.{ℕ, arith, ◌≡◌, refl, sym, ap, ◌∙◌, Bool, true, false, List, [], ◌∷◌, eqb, get_or, length, take, replicate}
 use Rattle.rules.specs.Form.{form01}
 use Rattle.rules.specs.Refusals.{Res, good, refused}
 use Rattle.rules.specs.Netlist.{Netlist, netlist_of}
@@ -13,7 +7,6 @@ use Rattle.rules.specs.Sequence.{Sequence, sequence_of}
 use Rattle.rules.specs.Values.{are_bits}
 use Rattle.rules.specs.Calls.{Outcome, map_outcome, evaluate_outcome, check_outcome, simulate_outcome}
 use Rattle.rules.specs.Texts.{xor_netlist, xor_sequence}
-use Rattle.rules.proofs.Laws.{no_way}
 use Rattle.rules.proofs.Bench.{wrong_place}
 use Rattle.claims.specs.Shapes.{EvaluateCall, SimulateCall}
 use Rattle.claims.specs.Defended.{Honoured}
@@ -42,7 +35,7 @@ row = 1 ∷ 0 ∷ 0 ∷ 0 ∷ 0 ∷ []
 
 -- a test tells two outcomes apart
 differ : {A : Type 0} (test : A → Bool) (a b : A) → test a ≡ false → test b ≡ true → a ≡ b → ⊥
-differ test a b p q e = no_way (cc (ap test e))
+differ test a b p q e = cc (ap test e)
 
 -- it is no refusal
 passed : Res ℕ → Bool
@@ -112,9 +105,13 @@ by3 = record {
       let n = counts xor_netlist wrong_place in
       let h = d.defended xor_netlist wrong_place n refl in
       let eight : 8 ≡ n = reads_as (λ (S : Sequence). length S.instructions) (sequence_of form01 wrong_place) h.S h.reads_sequence ∙ sym h.counts in
-      no_way (ap (λ (k : ℕ). get_or (simulate_outcome wrong_place row k).lent 2 0) eight ∙ honoured_output simulate_outcome evaluate_outcome wrong_place n h refl);
+      let clash : ◌≡◌ {A = ℕ} 0 1 =
+      ap (λ (k : ℕ). get_or (simulate_outcome wrong_place row k).lent 2 0) eight ∙ honoured_output simulate_outcome evaluate_outcome wrong_place n h refl in
+      cc;
   refuses-all = λ numbers d. let p = d.mapped_pass 5 xor_netlist buffer 82 refl in differ passed _ _ refl refl p.1;
-  leaves-row = λ d. no_way (honoured_output leaves_row evaluate_outcome xor_sequence 8 (d.defended xor_netlist xor_sequence 8 refl) refl);
+  leaves-row = λ d.
+      let clash : ◌≡◌ {A = ℕ} 0 1 = honoured_output leaves_row evaluate_outcome xor_sequence 8 (d.defended xor_netlist xor_sequence 8 refl) refl in
+      cc;
 }
 
 pub shut_out : ShutOut

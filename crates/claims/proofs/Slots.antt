@@ -1,26 +1,12 @@
 -- Laws of slots: which pass a test, which is the lowest, which keeps a signal, and what many stores leave.
 -- Assumes nothing.
-use Prim.Native.Nat.{ℕ, zero, suc, ◌+◌, ◌<◌, zero-le, suc-le-suc}
-use native.Mathlib.Omega.{arith}
+use Rattle.std.proofs.Common.{ℕ, zero, suc, ◌+◌, ◌<◌, arith, ◌≡◌, refl, sym, ap, ◌∙◌, Bool, true, false, ◌||◌, List, [], ◌∷◌, map, eqb, eqb-true, eq-eqb, ne_eqb, get_or, length, set, get_or-set_same, get_or-set_other, lt-length-set}
 use native.Mathlib.Decide.{ℕ_discrete}
-use mathlib.Core.Path.{◌≡◌, refl, sym, ap, ◌∙◌}
-use mathlib.Core.Bool.{Bool, true, false, ◌||◌}
-use mathlib.Core.List.{List, [], ◌∷◌, map}
 use mathlib.Core.Option.{some}
-use lib.Dec.{eqb}
-use borrow.Author.Tests.{eqb-true, eq-eqb, ne_eqb}
-use lib.ListN.{get_or, length, set}
-use lib.Seq.{get_or-set_same, get_or-set_other, lt-length-set}
 use Rattle.rules.specs.Basics.{pick, mem, ascending, set_all}
 use Rattle.rules.specs.Cells.{Slot, blank, ready, spent, keeps, is_ready, is_spent, is_keeping, those, lowest, or_zero, cell_of}
-use Rattle.rules.proofs.Laws.{no_way, by_pick, cons_cases, cons_more, cons_self, mem-nil}
+use Rattle.rules.proofs.Laws.{by_pick, cons_cases, cons_more, cons_self, mem-nil}
 use Rattle.rules.proofs.Lists.{asc_cons}
-
--- what is no blank lies in the row
-pub known : (l : List Slot) (c : ℕ) (x : Slot) → get_or l c blank ≡ x → (x ≡ blank → ⊥) → c < length l
-known [] c x e h = absurd (h (sym e))
-known (y ∷ l) zero x e h = suc-le-suc zero-le
-known (y ∷ l) (suc c) x e h = suc-le-suc (known l c x e h)
 
 -- ---- one slot
 
@@ -74,7 +60,7 @@ those_asc p (s ∷ l) k =
 
 pub lowest_some : (p : Slot → Bool) (l : List Slot) (k c : ℕ) → lowest p k l ≡ some c → (x : ℕ) × (k + x ≡ c) × (p (get_or l x blank) ≡ true)
 unfolding lowest pick
-lowest_some p [] k c e = absurd (no_way (cc))
+lowest_some p [] k c e = cc
 lowest_some p (s ∷ l) k c e = go (p s) refl e (lowest_some p l (suc k) c)
   where
     go : (t : Bool) → p s ≡ t → pick t (some k) (lowest p (suc k) l) ≡ some c
@@ -85,13 +71,13 @@ lowest_some p (s ∷ l) k c e = go (p s) refl e (lowest_some p l (suc k) c)
 
 pub lowest_found : (p : Slot → Bool) → p blank ≡ false → (l : List Slot) (k x : ℕ) → p (get_or l x blank) ≡ true → (c : ℕ) × (lowest p k l ≡ some c)
 unfolding lowest pick
-lowest_found p pb [] k x e = absurd (no_way (cc))
+lowest_found p pb [] k x e = cc
 lowest_found p pb (s ∷ l) k x e = go (p s) refl x e (lowest_found p pb l (suc k))
   where
     go : (t : Bool) → p s ≡ t → (x : ℕ) → p (get_or (s ∷ l) x blank) ≡ true → ((x : ℕ) → p (get_or l x blank) ≡ true → (c : ℕ) × (lowest p (suc k) l ≡ some c))
         → (c : ℕ) × (pick t (some k) (lowest p (suc k) l) ≡ some c)
     go true q x f rec = (k, refl)
-    go false q zero f rec = absurd (no_way (cc))
+    go false q zero f rec = cc
     go false q (suc x) f rec = rec x f
 
 -- the lowest ready cell is ready

@@ -1,41 +1,23 @@
 -- A checked sequence on a row, over netlist and sequence as read.
-use Prim.Native.Nat.{ℕ, zero, suc, ◌+◌, ◌-◌, ◌<◌, ◌≤◌}
-use native.Mathlib.Omega.{arith}
+use Rattle.std.proofs.Common.{ℕ, zero, suc, ◌+◌, ◌-◌, ◌<◌, ◌≤◌, arith, ◌≡◌, sym, ap, ◌∙◌, true, List, [], ◌∷◌, eqb, eqb-true, lt-ltb, get_or, length, replicate, take, length-take, get_or-take, length-take-le}
 use native.Mathlib.Decide.{dec_lt}
-use mathlib.Core.Path.{◌≡◌, refl, sym, ap, ◌∙◌}
-use mathlib.Core.Bool.{true}
-use mathlib.Core.List.{List, [], ◌∷◌, ◌++◌, map}
 use mathlib.Core.Option.{some}
-use lib.Dec.{eqb}
-use borrow.Author.Tests.{eqb-true, lt-ltb}
-use lib.ListN.{get_or, length, replicate, take, length-take}
-use lib.Seq.{get_or-take, length-take-le}
-use Rattle.rules.specs.Basics.{upto}
+use Rattle.std.proofs.lemmas.Bool.{and_parts}
 use Rattle.rules.specs.Refusals.{good}
 use Rattle.rules.specs.Netlist.{Netlist}
 use Rattle.rules.specs.Sequence.{Sequence}
 use Rattle.rules.specs.Values.{nor, table, values}
 use Rattle.rules.specs.Device.{run}
 use Rattle.rules.specs.Book.{Cell, unknown, ready, holds, first_book, gate_with, steps, is_holding, placed, checked}
-use Rattle.rules.proofs.Laws.{no_way, bind_good, require_good, and_true, gate_with_spec}
-use Rattle.rules.proofs.Lists.{Each}
-use Rattle.claims.proofs.Table.{Below, table_keeps, values_spec}
-use Rattle.claims.proofs.FirstBook.{front, book_size}
+use Rattle.rules.proofs.Laws.{bind_good, require_good, gate_with_spec}
+use Rattle.rules.proofs.Lists.{Below, all_default}
+use Rattle.rules.proofs.Reading.{Well}
+use Rattle.claims.proofs.Table.{table_keeps, values_spec}
+use Rattle.claims.proofs.FirstBook.{front, behind, book_size}
 use Rattle.claims.proofs.Fits.{Fits, steps_fit}
 use Rattle.claims.proofs.Stays.{run_stays, steps_spare}
 
 -- ---- the first book
-
-blank : (m c : ℕ) → get_or (replicate m unknown) c unknown ≡ unknown
-blank zero c = refl
-blank (suc m) zero = refl
-blank (suc m) (suc c) = blank m c
-
-past : (a n c m : ℕ) → n ≤ c → get_or (map holds (upto a n) ++ replicate m unknown) c unknown ≡ unknown
-unfolding upto
-past a zero c m h = blank m c
-past a (suc n) zero m h = absurd (omega arith)
-past a (suc n) (suc c) m h = past (suc a) n c m (omega arith)
 
 -- it fits every row
 first_fits : (n : ℕ) (gs : List (List ℕ)) (r : List ℕ) → n ≤ length r → Fits (table nor (take n r) gs) (first_book n (length r)) r
@@ -45,22 +27,24 @@ first_fits n gs r h = record { len = book_size n (length r) h; val = λ c s e. v
     rest : List Cell
     rest = replicate (length r - n) unknown
 
+    past : (c : ℕ) → n ≤ c → get_or (first_book n (length r)) c unknown ≡ unknown
+    past c h = behind holds n c rest unknown h ∙ all_default (length r - n) (c - n) unknown
+
     val : (c : ℕ) → Dec (c < n) → (s : ℕ) → get_or (first_book n (length r)) c unknown ≡ holds s → get_or r c 0 ≡ get_or (table nor (take n r) gs) s 0
     val c (yes q) s e =
-        let p = front holds 0 n c rest unknown q in
-        let z : 0 + c ≡ s = cc in
-        let z' : c ≡ s = omega arith in
-        rw (← z') (sym (table_keeps nor (take n r) gs c (simp length-take (omega arith)) ∙ get_or-take n r c 0 q))
-    val c (no q) s e = let p = past 0 n c (length r - n) (omega arith) in absurd (no_way (cc))
+        let p = front holds n c rest unknown q in
+        let z : c ≡ s = cc in
+        rw (← z) (sym (table_keeps (take n r) gs c (simp length-take (omega arith)) ∙ get_or-take n r c 0 q))
+    val c (no q) s e = let p = past c (omega arith) in cc
 
     one : (c : ℕ) → Dec (c < n) → get_or (first_book n (length r)) c unknown ≡ ready → get_or r c 0 ≡ 1
-    one c (yes q) e = let p = front holds 0 n c rest unknown q in absurd (no_way (cc))
-    one c (no q) e = let p = past 0 n c (length r - n) (omega arith) in absurd (no_way (cc))
+    one c (yes q) e = let p = front holds n c rest unknown q in cc
+    one c (no q) e = let p = past c (omega arith) in cc
 
 -- ---- gates and places
 
 -- a gate that is found has its operands' NOR for its value
-gates_true : (ins : List ℕ) (gs : List (List ℕ)) (n : ℕ) → length ins ≡ n → Each Below n gs → (l : List ℕ) (s : ℕ) → gate_with l n gs ≡ some s
+gates_true : (ins : List ℕ) (gs : List (List ℕ)) (n : ℕ) → length ins ≡ n → ((j : ℕ) → j < length gs → Below (n + j) (get_or gs j [])) → (l : List ℕ) (s : ℕ) → gate_with l n gs ≡ some s
     → get_or (table nor ins gs) s 0 ≡ nor (table nor ins gs) l
 gates_true ins gs n len o l s e =
     let (j, h, p, q) = gate_with_spec l n gs s e in
@@ -69,8 +53,8 @@ gates_true ins gs n len o l s e =
 
 holding : (x : Cell) (s : ℕ) → is_holding x s ≡ true → x ≡ holds s
 unfolding is_holding
-holding unknown s e = absurd (no_way (cc))
-holding ready s e = absurd (no_way (cc))
+holding unknown s e = cc
+holding ready s e = cc
 holding (holds t) s e = ap holds (eqb-true t s e)
 
 -- each place holds its output
@@ -81,9 +65,9 @@ placed_spec vs b r fit [] [] l e k h = absurd (omega arith)
 placed_spec vs b r fit [] (o ∷ outs) l e k h = absurd (omega arith)
 placed_spec vs b r fit (p ∷ ps) [] l e k h = absurd (omega arith)
 placed_spec vs b r fit (p ∷ ps) (o ∷ outs) l e zero h =
-    fit.val p o (holding (get_or b p unknown) o (and_true (is_holding (get_or b p unknown) o) (placed b ps outs) e).0)
+    fit.val p o (holding (get_or b p unknown) o (and_parts (is_holding (get_or b p unknown) o) (placed b ps outs) e).0)
 placed_spec vs b r fit (p ∷ ps) (o ∷ outs) l e (suc k) h =
-    placed_spec vs b r fit ps outs (omega arith) (and_true (is_holding (get_or b p unknown) o) (placed b ps outs) e).1 k (omega arith)
+    placed_spec vs b r fit ps outs (omega arith) (and_parts (is_holding (get_or b p unknown) o) (placed b ps outs) e).1 k (omega arith)
 
 -- ---- the whole
 
@@ -119,11 +103,11 @@ module _ (N : Netlist) (S : Sequence) (n : ℕ) (r : List ℕ) (c : Checked N S 
       (steps_spare N k (lt-ltb k N.inputs h) S.instructions (first_book N.inputs S.row) c.book c.stepped)
 
   -- each place holds its output's value at the end of the run
-  pub places_hold : Each Below N.inputs N.gates → N.inputs ≤ S.row → length S.places ≡ length N.outputs → length r ≡ S.row
+  pub places_hold : Well N → N.inputs ≤ S.row → length S.places ≡ length N.outputs → length r ≡ S.row
       → (k : ℕ) → k < length N.outputs
       → get_or (run (length S.instructions) S.instructions r) (get_or S.places k 0) 0 ≡ get_or (values N (take N.inputs r)) (get_or N.outputs k 0) 0
   unfolding values
-  places_hold o h l len =
+  places_hold W h l len =
       placed_spec vs c.book (run (length S.instructions) S.instructions r) fit S.places N.outputs l c.holding
     where
       vs : List ℕ
@@ -131,5 +115,5 @@ module _ (N : Netlist) (S : Sequence) (n : ℕ) (r : List ℕ) (c : Checked N S 
 
       fit : Fits vs c.book (run (length S.instructions) S.instructions r)
       fit =
-          steps_fit N vs (gates_true (take N.inputs r) N.gates N.inputs (length-take-le N.inputs r (omega arith)) o) S.instructions
+          steps_fit N vs (gates_true (take N.inputs r) N.gates N.inputs (length-take-le N.inputs r (omega arith)) (λ j k. (W.lines.gate j k).lower)) S.instructions
           (first_book N.inputs S.row) c.book r (rw (← len) (first_fits N.inputs N.gates r (omega arith))) c.stepped

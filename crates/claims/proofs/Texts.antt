@@ -1,12 +1,6 @@
 -- From a netlist's text to a sequence's text, over any form that fits: the sequence reads back, passes, and is short.
 -- Assumes nothing.
-use Prim.Native.Nat.{ℕ, ◌-◌, ◌*◌, ◌<◌, ◌≤◌}
-use native.Mathlib.Omega.{arith}
-use mathlib.Core.Path.{◌≡◌}
-use mathlib.Core.List.{List}
-use lib.Dec.{ltb}
-use borrow.Author.Tests.{ltb-true}
-use lib.ListN.{length}
+use Rattle.std.proofs.Common.{ℕ, ◌-◌, ◌*◌, ◌<◌, ◌≤◌, arith, ◌≡◌, List, ltb, ltb-true, length}
 use Rattle.rules.specs.Basics.{within}
 use Rattle.rules.specs.Form.{Form, form01}
 use Rattle.rules.specs.Refusals.{good, ◌>>=◌}
@@ -54,10 +48,10 @@ module _ (F : Form) (fits : Fits F) (row : ℕ) (text : List ℕ) where
   pub text_mapped : (t : List ℕ) → mapped_text F row text ≡ good t → Mapped F text t
   unfolding mapped_text mapped
   text_mapped t e =
-      from_require (Mapped F text t) (within 2 F.row_most row) 8 _ t e λ size a.
-      from_bind (Mapped F text t) (netlist_of F text) _ t a λ N read b.
-      from_bind (Mapped F text t) (mapped N row) _ t b λ S rule c.
-      from_require (Mapped F text t) (ltb N.inputs row) 9 _ S rule λ room d.
+      from_require (within 2 F.row_most row) 8 _ t e λ size a.
+      from_bind (netlist_of F text) _ t a λ N read b.
+      from_bind (mapped N row) _ t b λ S rule c.
+      from_require (ltb N.inputs row) 9 _ S rule λ room d.
       let h = within_true 2 F.row_most row size in
       let i = ltb-true N.inputs row room in
       let (W, Z) = netlist_read F text N read in

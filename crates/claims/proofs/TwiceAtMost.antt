@@ -1,7 +1,6 @@
 -- A mapping has at most twice as many instructions as the netlist has gates.
 -- Assumes nothing.
-use native.Mathlib.Omega.{arith}
-use mathlib.Core.Path.{sym, ◌∙◌}
+use Rattle.std.proofs.Common.{arith, sym, ◌∙◌}
 use Rattle.claims.specs.Twice.{TwiceAtMost}
 use Rattle.rules.proofs.Answers.{good_same}
 use Rattle.claims.proofs.Delivered.{map-answered}

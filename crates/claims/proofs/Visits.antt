@@ -1,13 +1,10 @@
 -- The visit runs operands first, each gate once.
 -- Assumes nothing.
-use Prim.Native.Nat.{ℕ, zero, suc, ◌<◌, ◌≤◌}
-use native.Mathlib.Omega.{arith}
-use mathlib.Core.Path.{◌≡◌, ◌∙◌}
-use mathlib.Core.Bool.{true, false}
-use mathlib.Core.List.{List, [], ◌∷◌, ◌++◌, append-nil, append_assoc}
+use Rattle.std.proofs.Common.{ℕ, zero, suc, ◌<◌, ◌≤◌, arith, ◌≡◌, ◌∙◌, true, false, List, [], ◌∷◌, ◌++◌, append-nil, append_assoc}
+use Rattle.std.proofs.lemmas.Bool.{or_left}
 use Rattle.rules.specs.Basics.{mem, each}
 use Rattle.rules.specs.Order.{visit}
-use Rattle.rules.proofs.Laws.{by_pick, snoc_more, snoc_self, snoc_not, snoc_cases, cons_cases, cons_more, cons_self, mem-nil, mem-append, or_left}
+use Rattle.rules.proofs.Laws.{by_pick, snoc_more, snoc_self, mem-snoc, snoc_cases, cons_cases, cons_more, cons_self, mem-nil, mem-append}
 
 -- each of the list's gates comes behind its operands, and only once; d is what ran before
 unfoldable pub Runs : (ℕ → List ℕ) → List ℕ → List ℕ → Type 0
@@ -74,7 +71,7 @@ module _ (ops : ℕ → List ℕ) (Gate : ℕ → Type 0) (low : (g o : ℕ) →
   run_last g d d₁ k e v had = record {
     runs = λ r. runs_snoc ops [] d₁ g (v.runs r) had (v.only g (omega arith) e);
     more = λ x p. snoc_more x d₁ g (v.more x p);
-    only = λ x h p. snoc_not x d₁ g (v.only x (omega arith) p) (λ q. omega arith);
+    only = λ x h p. mem-snoc x g d₁ (λ q. omega arith) ∙ v.only x (omega arith) p;
     gates = λ a x p. snoc_cases (Gate x) x d₁ g p (λ q. v.gates a x q) (λ q. rw q k);
   }
 

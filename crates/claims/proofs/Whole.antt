@@ -1,19 +1,14 @@
 -- The order of a well-formed netlist: operands first, each gate once, all gates. Any order among a gate's operands serves.
 -- Assumes nothing.
-use Prim.Native.Nat.{ℕ, zero, suc, ◌+◌, ◌-◌, ◌<◌, ◌≤◌}
-use native.Mathlib.Omega.{arith}
-use mathlib.Core.Path.{◌≡◌, refl, sym, ◌∙◌}
-use mathlib.Core.Bool.{Bool, true, false, ◌||◌, not}
-use mathlib.Core.List.{List, [], ◌∷◌}
-use lib.Dec.{eqb, leb}
-use borrow.Author.Tests.{leb-true, le-leb}
-use lib.ListN.{length}
+use Rattle.std.proofs.Common.{ℕ, zero, suc, ◌+◌, ◌-◌, ◌<◌, ◌≤◌, arith, ◌≡◌, refl, sym, ◌∙◌, Bool, true, false, not, List, [], ◌∷◌, eqb, leb, leb-true, le-leb, length}
+use Rattle.std.proofs.lemmas.List.{get_or_default}
+use Rattle.std.proofs.lemmas.List.Folds.{Any-from_list_any}
 use Rattle.rules.specs.Basics.{mem, each}
 use Rattle.rules.specs.Netlist.{Netlist, operands_of, gate_signals, is_read}
 use Rattle.rules.specs.Weight.{gate_operands, goes_before, insert_by, high_to_low, weight_in, weights}
 use Rattle.rules.specs.Order.{roots, visit_order, visit, order}
-use Rattle.rules.proofs.Laws.{by_pick, mem-nil}
-use Rattle.rules.proofs.Lists.{keep_mem, mem-keep, any_at, upto_mem, upto_in}
+use Rattle.rules.proofs.Laws.{by_pick, mem-nil, or_swap}
+use Rattle.rules.proofs.Lists.{keep_mem, mem-keep, upto_mem, upto_in}
 use Rattle.claims.proofs.Visits.{Runs, runs_mem, Visited, wider, each_visited, visit_visited}
 use Rattle.rules.proofs.Reading.{Well, Gate, well_gate}
 
@@ -60,9 +55,9 @@ module _ (N : Netlist) (W : Well N) (ops : ℕ → List ℕ) (same : (g o : ℕ)
   read_at : (x : ℕ) → is_read N x ≡ true → (r : ℕ) × Gate N r × (mem x (operands_of N r) ≡ true)
   unfolding is_read operands_of
   read_at x e =
-      let (j, h, f) = any_at (mem x) N.gates e in
+      let (j, os, h, is, f) = Any-from_list_any (mem x) N.gates e in
       let z : N.inputs + j - N.inputs ≡ j = omega arith in
-      (N.inputs + j, omega arith, rw z f)
+      (N.inputs + j, omega arith, rw (z, get_or_default N.gates j [] os h, is) f)
 
   from_above : (k x : ℕ) → Gate N x → N.inputs + length N.gates ≤ x + k → mem x order_by ≡ true
   from_above zero x g h = absurd (omega arith)
@@ -85,13 +80,7 @@ unfolding insert_by mem
 insert_mem w a [] x = refl
 insert_mem w a (b ∷ l) x =
     by_pick (λ (k : List ℕ). mem x k ≡ mem x (a ∷ b ∷ l)) (goes_before w a b) (λ _. refl)
-    (λ _. rw (insert_mem w a l x) (swap (eqb x b) (eqb x a) (mem x l)))
-  where
-    swap : (s t u : Bool) → (s || (t || u)) ≡ (t || (s || u))
-    swap true true u = refl
-    swap true false u = refl
-    swap false true u = refl
-    swap false false u = refl
+    (λ _. rw (insert_mem w a l x) (or_swap (eqb x b) (eqb x a) (mem x l)))
 
 sort_mem : (w : ℕ → ℕ) (l : List ℕ) (x : ℕ) → mem x (high_to_low w l) ≡ mem x l
 unfolding high_to_low mem

@@ -2,9 +2,8 @@
 -- Assumes nothing.
 use Rattle.std.specs.Prelude.{ℕ, ◌-◌, ◌<◌, ◌≤◌, ◌≡◌, ◌↔◌, ◌⊎◌, List, [], ◌∷◌, ◌++◌}
 use Rattle.std.proofs.Math.Option.{none}
-use Rattle.rules.specs.declared.Refusal.{Refusal}
 use Rattle.rules.specs.Form.{form01}
-use Rattle.rules.specs.Refusals.{good, refused, refuse}
+use Rattle.rules.specs.Refusals.{good, refused}
 use Rattle.rules.specs.Netlist.{Netlist, netlist_of}
 use Rattle.rules.specs.Order.{order}
 use Rattle.rules.specs.Cells.{State, is_ready, lowest, execute_gates, all_spent, opening}
@@ -24,15 +23,15 @@ pub record Stuck (N : Netlist) (row : ℕ) : Type 0 where
 -- for every netlist that reads well and every row of 2 to 256: map answers 9 exactly when there is no work cell or a gate is met so
 abbrev pub NoRoomExactly : Type 0
 NoRoomExactly = (row : ℕ) (text out : List ℕ) (N : Netlist) → netlist_of form01 text ≡ good N → 2 ≤ row → row ≤ 256
-    → ((map_outcome row text out).answer ≡ refuse 9) ↔ ((row ≤ N.inputs) ⊎ Stuck N row)
+    → ((map_outcome row text out).answer ≡ refused 9) ↔ ((row ≤ N.inputs) ⊎ Stuck N row)
 
 -- map answers 9 nowhere else
 pub record NoRoomOnly : Type 0 where
   -- a row outside 2 to 256 is answered 8, whatever the text
-  pub row_outside : (row : ℕ) (text out : List ℕ) → (row < 2) ⊎ (256 < row) → (map_outcome row text out).answer ≡ refuse 8
+  pub row_outside : (row : ℕ) (text out : List ℕ) → (row < 2) ⊎ (256 < row) → (map_outcome row text out).answer ≡ refused 8
   -- a netlist that is refused is answered with its own number, 1 to 7
-  pub netlist_refused : (row : ℕ) (text out : List ℕ) (x : Refusal) → 2 ≤ row → row ≤ 256 → netlist_of form01 text ≡ refused x
-      → ((map_outcome row text out).answer ≡ refused x) × (1 ≤ x.number) × (x.number ≤ 7)
+  pub netlist_refused : (row : ℕ) (text out : List ℕ) (x : ℕ) → 2 ≤ row → row ≤ 256 → netlist_of form01 text ≡ refused x
+      → ((map_outcome row text out).answer ≡ refused x) × (1 ≤ x) × (x ≤ 7)
   -- so where 9 is answered, the row is one of 2 to 256 and the netlist reads well
-  pub only : (row : ℕ) (text out : List ℕ) → (map_outcome row text out).answer ≡ refuse 9
+  pub only : (row : ℕ) (text out : List ℕ) → (map_outcome row text out).answer ≡ refused 9
       → (N : Netlist) × (netlist_of form01 text ≡ good N) × (2 ≤ row) × (row ≤ 256)

@@ -1,7 +1,7 @@
 -- Document 01, "How tight the contracts are": a contract determines, for all inputs including refused ones, the answer and each lent byte afterwards.
 -- Assumes nothing.
-use Rattle.std.specs.Prelude.{ℕ, ◌≡◌, List}
-use Rattle.rules.specs.declared.Answer.{Answer}
+use Rattle.std.specs.Prelude.{ℕ, ◌≡◌, List, Result}
+use Rattle.rules.specs.declared.Refusal.{Refusal}
 use Rattle.rules.specs.Refusals.{Res, meaning}
 use Rattle.rules.specs.Calls.{Outcome, map_outcome, evaluate_outcome, check_outcome, simulate_outcome, tail_outcome, frame_outcome, place_outcome, rowmap_output, rowcheck_output}
 
@@ -76,4 +76,4 @@ pub record Tight : Type 0 where
   pub rowmap : OneOutcome RowmapContract
   pub rowcheck : OneOutcome RowcheckContract
   -- Two answers of the code that mean the same are the same, so a contract on what an answer means settles the answer.
-  pub answer : (a b : Answer) → meaning a ≡ meaning b → a ≡ b
+  pub answer : (a b : Result ℕ Refusal) → meaning a ≡ meaning b → a ≡ b

@@ -1,9 +1,8 @@
 -- Document 01, "How tight the contracts are": the wrong programs to try, each beside right ones.
 -- Assumes nothing.
 use Rattle.std.specs.Prelude.{ℕ, zero, suc, List, ◌++◌, drop, replicate}
-use Rattle.rules.specs.declared.Refusal.{Refusal}
 use Rattle.rules.specs.Form.{form01}
-use Rattle.rules.specs.Refusals.{Res, good, refused, refuse}
+use Rattle.rules.specs.Refusals.{Res, good, refused}
 use Rattle.rules.specs.Calls.{map_outcome, evaluate_outcome, check_outcome, simulate_outcome}
 use Rattle.claims.specs.Shapes.{MapCall, EvaluateCall, CheckCall, SimulateCall}
 use Rattle.claims.specs.Demands.{Product}
@@ -22,14 +21,14 @@ with_simulate f = record { map = map_outcome; evaluate = evaluate_outcome; check
 
 -- a mapper answering 9 always
 unfoldable pub answers_nine : MapCall
-answers_nine row text out = record { answer = refuse 9; lent = out }
+answers_nine row text out = record { answer = refused 9; lent = out }
 
 -- a checker passing all, whatever numbers it passes them with
 unfoldable pub passes_all : (List ℕ → List ℕ → ℕ) → CheckCall
 passes_all counts netlist sequence = good (counts netlist sequence)
 
 -- a checker refusing all, whatever numbers it refuses them with
-unfoldable pub refuses_all : (List ℕ → List ℕ → Refusal) → CheckCall
+unfoldable pub refuses_all : (List ℕ → List ℕ → ℕ) → CheckCall
 refuses_all numbers netlist sequence = refused (numbers netlist sequence)
 
 -- an evaluator giving 0: where evaluate gives outputs, each is 0

@@ -1,4 +1,2 @@
-pub mod Copying
 pub mod Worked
-pub mod Handed
 pub mod Ends

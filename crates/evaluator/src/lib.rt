@@ -1,100 +1,73 @@
 // evaluate: the outputs of a netlist for given inputs.
 #![tactic(auto)]
 
-ghost use Rattle.std.specs.Prelude.{◌≡◌, ◌+◌, ◌≤◌, map, length, take};
+ghost use Rattle.std.specs.Prelude.{◌≡◌, ◌+◌, ◌≤◌, ◌++◌, map, length, take, drop};
 ghost use Rattle.std.proofs.lemmas.List.Edits.{sets};
 ghost use Rattle.rules.specs.Values.{nor, table};
 ghost use Rattle.rules.specs.Calls.{outcome_of, evaluate_outcome};
-ghost use Rattle.netlist.specs.Flat.{from, gates_in};
+ghost use Rattle.netlist.specs.Flat.{gates_in};
 ghost use Rattle.netlist.specs.Well.{WellFlat};
-ghost use Rattle.evaluator.specs.Values.{no_values, values_at};
+ghost use Rattle.evaluator.specs.Values.{values_at};
 
 use netlist::Netlist;
-use rules::{Answer, Refusal};
-use slices::{at8, at16, put8};
-
-fn no_values() -> [u8; 576]
-    ensures { result ≡ no_values }
-{
-    [0; 576]
-}
+use rules::Refusal;
 
 // The inputs, as the first values.
 fn copy_in(inputs: &[u8], values: &mut [u8])
-    ensures { values.new ≡ sets values.old 0 inputs.now }
+    requires { length inputs.now ≤ length values.old }
+    ensures { values.new ≡ inputs.now ++ drop (length inputs.now) values.old }
 {
-    let mut i = 0;
-    while i < inputs.len() {
-        put8(values, i, inputs[i]);
-        i += 1;
-    }
+    values[..inputs.len()].copy_from_slice(inputs);
 }
 
-// 1 when the k operands from a place on are all 0, else 0.
-fn nor_of(values: &[u8], ops: &[u16], at: usize, k: usize) -> u8
-    requires { at + k ≤ 4096 }
-    ensures { result ≡ nor values.now (from ops.now at k) }
+// The value of a signal.
+fn value(values: &[u8], signal: u16) -> u8
+    ensures { result ≡ values_at values.now signal }
 {
-    let mut j = 0;
-    while j + 1 <= k {
-        if at8(values, at16(ops, at + j) as usize) != 0 {
-            return 0;
-        }
-        j += 1;
-    }
-    1
+    slices::at(values, usize::from(signal), 0)
+}
+
+// 1 when the operands are all 0, else 0.
+fn nor_of(values: &[u8], operands: &[u16]) -> u8
+    ensures { result ≡ nor values.now operands.now }
+{
+    u8::from(operands.iter().all(|&o| value(values, o) == 0))
 }
 
 // The value of each gate, one after the other, behind those of the inputs.
-fn work_out(n: Netlist, values: &mut [u8])
-    requires { WellFlat n × (length values.old ≡ 576) }
-    ensures { take (n.inputs + n.gates) values.new ≡ table nor (take n.inputs values.old) (gates_in n.ops n.counts n.gates) }
+fn work_out(n: &Netlist, values: &mut [u8])
+    requires { WellFlat n.now × (length values.old ≡ 576) }
+    ensures { take (n.now.inputs + n.now.gates) values.new ≡ table nor (take n.now.inputs values.old) (gates_in n.now.ops n.now.counts n.now.gates) }
 {
-    let inputs = n.inputs;
-    let gates = n.gates;
-    let ops = n.ops;
-    let counts = n.counts;
-    let mut g = 0;
-    while g < gates {
-        let v = nor_of(values, &ops, 4 * g, at8(&counts, g) as usize);
-        put8(values, inputs + g, v);
-        g += 1;
+    for g in 0..n.gates {
+        let v = nor_of(values, n.operands(g));
+        slices::put(values, n.inputs + g, v);
     }
 }
 
-// The values of the first n outputs, in the buffer's first bytes.
-fn hand_out(values: &[u8], outs: &[u16], n: usize, out: &mut [u8])
-    requires { n ≤ 64 }
-    ensures { out.new ≡ sets out.old 0 (map (values_at values.now) (from outs.now 0 n)) }
+// The values of the outputs, in the buffer's first bytes.
+fn hand_out(values: &[u8], outputs: &[u16], out: &mut [u8])
+    ensures { out.new ≡ sets out.old 0 (map (values_at values.now) outputs.now) }
 {
-    let mut k = 0;
-    while k < n {
-        put8(out, k, at8(values, at16(outs, k) as usize));
-        k += 1;
+    for (k, &o) in outputs.iter().enumerate() {
+        slices::put(out, k, value(values, o));
     }
 }
 
-// Evaluating: the netlist's refusals, then 17, then 10. A refusal leaves every byte.
-pub fn evaluate(text: &[u8], inputs: &[u8], out: &mut [u8]) -> Answer
+// Evaluating: the netlist's refusals, then the inputs', then the buffer's. A refusal leaves every byte.
+pub fn evaluate(text: &[u8], inputs: &[u8], out: &mut [u8]) -> Result<usize, Refusal>
     ensures { outcome_of result out.new ≡ evaluate_outcome text.now inputs.now out.old }
 {
-    let r = netlist::read(text);
-    let refusal = r.refusal;
-    let n = r.netlist;
-    let outputs = n.outputs;
-    let outs = n.outs;
-    if refusal.number != 0 {
-        return Answer::Refused(refusal);
-    }
+    let n = netlist::read(text)?;
     if !slices::are_bits(inputs, n.inputs) {
-        return Answer::Refused(Refusal { number: 17 });
+        return Err(Refusal::NotBits);
     }
-    if out.len() < outputs {
-        return Answer::Refused(Refusal { number: 10 });
+    if out.len() < n.outputs {
+        return Err(Refusal::ShortBuffer);
     }
-    let mut values = no_values();
+    let mut values = [0; 576];
     copy_in(inputs, &mut values);
-    work_out(n, &mut values);
-    hand_out(&values, &outs, outputs, out);
-    Answer::Given(outputs)
+    work_out(&n, &mut values);
+    hand_out(&values, n.output_list(), out);
+    Ok(n.outputs)
 }

@@ -1,22 +1,14 @@
 -- The frame at a place and the place after it, by what the line reader answers there.
 -- Assumes nothing.
-use Prim.Native.Nat.{ℕ, ◌+◌, ◌-◌, ◌<◌}
-use native.Mathlib.Omega.{arith}
+use Rattle.std.proofs.Common.{ℕ, ◌+◌, ◌-◌, ◌<◌, arith, ◌≡◌, refl, sym, ap, ◌∙◌, Bool, true, false, List, [], length, take, drop, drop_of_length-le, length-take, length-drop, Bor, ne_eqb, Result, Ok, Err}
 use native.Mathlib.Decide.{dec_lt}
-use mathlib.Core.Path.{◌≡◌, refl, sym, ap, ◌∙◌}
-use mathlib.Core.Bool.{Bool, true, false}
-use mathlib.Core.List.{List, []}
-use lib.ListN.{length, take, drop, drop_of_length-le, length-take, length-drop}
-use denote.Ref.{Bor}
-use borrow.Author.Tests.{lt-leb, ne_eqb}
+use borrow.Author.Tests.{lt-leb}
 use Rattle.rules.specs.declared.Refusal.{Refusal}
 use Rattle.rules.specs.Basics.{pick}
 use Rattle.rules.specs.Form.{form01}
 use Rattle.rules.specs.Lines.{digits, is_line, frame_at, place_after}
 use Rattle.rules.specs.Calls.{frame_outcome, place_outcome}
-use Rattle.rules.proofs.Laws.{no_way}
-use Rattle.lines.specs.declared.Line.{Line}
-use Rattle.lines.specs.declared.Line.TheVariants.{Frame, Refused}
+use Rattle.rules.specs.declared.Refusal.TheVariants.{BadLine}
 use Rattle.lines.specs.Line.{line_at}
 use Rattle.frames.specs.Reader.{start_of, spot_in}
 use Rattle.lines.proofs.Meaning.{Fits, frame_fits}
@@ -26,21 +18,21 @@ pub stands : (text : Bor (List ℕ)) {k : ℕ} (at : ℕ) → k ≡ start_of tex
 stands text at e = ap (λ (k : ℕ). (text.ref_ptr.0, k + text.ref_ptr.1)) e
 
 -- where the line reader refuses, no good line stands
-no_line : (text : List ℕ) (at : ℕ) (r : Refusal) → line_at text at ≡ Refused r → is_line form01 (drop at text) ≡ false
+no_line : (text : List ℕ) (at : ℕ) (r : Refusal) → line_at text at ≡ Err r → is_line form01 (drop at text) ≡ false
 unfolding line_at is_line digits pick
 no_line text at r e = go (dec_lt at (length text))
   where
-    bad : (t : Bool) → is_line form01 (drop at text) ≡ t → pick t (Frame (digits (drop at text))) (Refused (record { number = 1 })) ≡ Refused r
+    bad : (t : Bool) → is_line form01 (drop at text) ≡ t → pick t (Ok (digits (drop at text))) (Err BadLine) ≡ Err r
         → is_line form01 (drop at text) ≡ false
-    bad true q f = absurd (no_way (cc))
+    bad true q f = cc
     bad false q f = q
 
     go : Dec (at < length text) → is_line form01 (drop at text) ≡ false
     go (yes h) = bad (is_line form01 (drop at text)) refl (rw (lt-leb (length text) at h) at e)
     go (no h) = rw (drop_of_length-le text {i = at} (omega arith))
 
-module _ (text : List ℕ) (at : ℕ) (l : Line) (read : l ≡ line_at text at) where
-  module _ (n : ℕ) (is : l ≡ Frame n) where
+module _ (text : List ℕ) (at : ℕ) (l : Result ℕ Refusal) (read : l ≡ line_at text at) where
+  module _ (n : ℕ) (is : l ≡ Ok n) where
     fits : Fits text at n
     fits = frame_fits text at n (sym read ∙ is)
 
@@ -64,7 +56,7 @@ module _ (text : List ℕ) (at : ℕ) (l : Line) (read : l ≡ line_at text at) 
     unfolding place_outcome place_after pick
     place_past = rw (fits.good, fits.is)
 
-  module _ (r : Refusal) (is : l ≡ Refused r) where
+  module _ (r : Refusal) (is : l ≡ Err r) where
     none : is_line form01 (drop at text) ≡ false
     none = no_line text at r (sym read ∙ is)
 

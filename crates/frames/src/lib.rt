@@ -6,8 +6,6 @@ ghost use Rattle.std.specs.Prelude.{◌≡◌};
 ghost use Rattle.rules.specs.Calls.{frame_outcome, place_outcome};
 ghost use Rattle.frames.specs.Reader.{spot_in, at_start, gives, spot, moved, piece_at, frames_in};
 
-use lines::Line;
-
 // The text and the place of the next frame.
 #[derive(Clone, Copy)]
 pub struct Frames<'a> {
@@ -19,8 +17,7 @@ pub struct Frames<'a> {
 pub fn frame_at(text: &[u8], at: usize) -> &[u8]
     ensures { (result.now ≡ frame_outcome text.now at) × (result.ref_ptr ≡ spot_in text.entry at) }
 {
-    let l = lines::read_line(text, at);
-    let Line::Frame(n) = l else {
+    let Ok(n) = lines::read_line(text, at) else {
         let end = text.len();
         return &text[end..];
     };
@@ -32,28 +29,29 @@ pub fn frame_at(text: &[u8], at: usize) -> &[u8]
 pub fn place_after(text: &[u8], at: usize) -> usize
     ensures { result ≡ place_outcome text.now at }
 {
-    let l = lines::read_line(text, at);
-    let Line::Frame(n) = l else {
+    let Ok(n) = lines::read_line(text, at) else {
         return at;
     };
     at + n + 1
 }
 
-// A reader at the text's start.
-pub fn new<'a>(text: &'a [u8]) -> Frames<'a>
-    ensures { result ≡ at_start text.entry }
-{
-    Frames { text, at: 0 }
-}
+impl<'a> Frames<'a> {
+    // A reader at the text's start.
+    pub fn new(text: &'a [u8]) -> Frames<'a>
+        ensures { result ≡ at_start text.entry }
+    {
+        Frames { text, at: 0 }
+    }
 
-// The next frame's digits. The reader moves to the place after it, or stays.
-pub fn next<'s, 'a>(r: &'s mut Frames<'a>) -> &'a [u8]
-    ensures { ((result.now ≡ gives r.old) × (result.ref_ptr ≡ spot r.old)) × (r.new ≡ moved r.old) }
-{
-    let text = r.text;
-    let at = r.at;
-    r.at = place_after(text, at);
-    frame_at(text, at)
+    // The next frame's digits. The reader moves to the place after it, or stays.
+    pub fn next(&mut self) -> &'a [u8]
+        ensures { ((result.now ≡ gives self.old) × (result.ref_ptr ≡ spot self.old)) × (self.new ≡ moved self.old) }
+    {
+        let text = self.text;
+        let at = self.at;
+        self.at = place_after(text, at);
+        frame_at(text, at)
+    }
 }
 
 // The width of the frame at a place (0 where none stands) and the place after it.
@@ -68,7 +66,7 @@ pub fn piece_at(text: &[u8], at: usize) -> Piece
     ensures { result ≡ piece_at text.now at }
 {
     let mut r = Frames { text, at };
-    let part = next(&mut r);
+    let part = r.next();
     Piece {
         width: part.len(),
         next: r.at,
@@ -79,14 +77,10 @@ pub fn piece_at(text: &[u8], at: usize) -> Piece
 pub fn count(text: &[u8]) -> usize
     ensures { result ≡ frames_in text.now }
 {
-    let mut at = 0;
+    let mut r = Frames::new(text);
     let mut n = 0;
-    loop {
-        let p = piece_at(text, at);
-        if p.width == 0 {
-            return n;
-        }
+    while !r.next().is_empty() {
         n += 1;
-        at = p.next;
     }
+    n
 }

@@ -25,9 +25,6 @@ digit_small os k = go (dec_lt k (length os))
     go (yes h) = omega (arith, digit_in os k h)
     go (no h) = omega (arith, digit_out os k (omega arith))
 
-pub digit_read : (r : ℕ) (os : List ℕ) (k : ℕ) → r ≡ digit_at os k → r ≤ 1024
-digit_read r os k e = omega (arith, e, digit_small os k)
-
 -- ---- the digits of a key
 
 -- the last digit and the rest

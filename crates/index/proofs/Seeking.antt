@@ -7,13 +7,13 @@ use mathlib.Core.Path.{◌≡◌, refl, sym, ap, ◌∙◌}
 use mathlib.Core.Bool.{Bool, true, false}
 use mathlib.Core.List.{List}
 use lib.Dec.{eqb}
-use lib.ListN.{get_or, length, set, length-set}
+use lib.ListN.{get_or, length, set, length-set, replicate, length-replicate}
 use lib.Seq.{get_or-set_same, get_or-set_other}
 use borrow.Author.Tests.{ne_eqb, eqb-true, eqb-false}
 use Rattle.rules.specs.Basics.{pick}
-use Rattle.index.specs.declared.Found.TheVariants.{At}
-use Rattle.index.specs.Chains.{zeros, remainder_of, entered, chained, follows, found_in, is_found, again_in, seek, last_of}
-use Rattle.index.proofs.Links.{zeros_long}
+use Rattle.std.specs.Prelude.{Some}
+use Rattle.std.specs.Option.{is_some}
+use Rattle.index.specs.Chains.{remainder_of, entered, chained, follows, found_in, again_in, seek, last_of}
 
 -- every chain is right up to n
 record Linked (keys : List ℕ) (n : ℕ) : Type 0 where
@@ -22,8 +22,7 @@ record Linked (keys : List ℕ) (n : ℕ) : Type 0 where
   pub head_at : (h : ℕ) → h < 1021 → get_or (chained keys n).heads h 0 ≡ last_of keys h n
   pub next_at : (g : ℕ) → g < n → get_or (chained keys n).next g 0 ≡ last_of keys (remainder_of (get_or keys g 0)) g
 
-zero_at : (n i : ℕ) → get_or (zeros n) i 0 ≡ 0
-unfolding zeros
+zero_at : (n i : ℕ) → let z : ℕ = 0 in get_or (replicate n z) i 0 ≡ z
 zero_at zero i = refl
 zero_at (suc n) zero = refl
 zero_at (suc n) (suc i) = zero_at n i
@@ -59,8 +58,8 @@ module _ (keys : List ℕ) (n : ℕ) (room : n < 512) (w : Linked keys n) where
 linked : (keys : List ℕ) (n : ℕ) → n ≤ 512 → Linked keys n
 unfolding chained entered last_of
 linked keys zero room = record {
-  heads_long = zeros_long 1024;
-  next_long = zeros_long 512;
+  heads_long = length-replicate {A = ℕ} 1024 0;
+  next_long = length-replicate {A = ℕ} 512 0;
   head_at = λ h l. zero_at 1024 h;
   next_at = λ g l. absurd (omega arith);
 }
@@ -86,7 +85,7 @@ module _ (keys : List ℕ) (n : ℕ) (room : n ≤ 512) where
           → follows keys (chained keys n).next key left (last_of keys (remainder_of key) m) ≡ seek keys key m
           → follows keys (chained keys n).next key (suc left) (last_of keys (remainder_of key) m) ≡ seek keys key m
           → follows keys (chained keys n).next key (suc left) (pick (eqb (remainder_of (get_or keys m 0)) (remainder_of key)) (suc m) (last_of keys (remainder_of key) m))
-          ≡ pick (eqb (get_or keys m 0) key) (At m) (seek keys key m)
+          ≡ pick (eqb (get_or keys m 0) key) (Some m) (seek keys key m)
       go true e p q =
           let z = eqb-true (remainder_of (get_or keys m 0)) (remainder_of key) e in
           let s : get_or (chained keys n).next m 0 ≡ last_of keys (remainder_of key) m = (linked keys n room).next_at m u ∙ ap (λ x. last_of keys x m) z in
@@ -95,10 +94,10 @@ module _ (keys : List ℕ) (n : ℕ) (room : n ≤ 512) where
           let z : eqb (get_or keys m 0) key ≡ false = ne_eqb (get_or keys m 0) key (λ y. eqb-false (remainder_of (get_or keys m 0)) (remainder_of key) e (ap remainder_of y)) in
           rw (e, z) q
 
-  pub found_chained : (key : ℕ) → found_in keys (chained keys n).heads (chained keys n).next key ≡ seek keys key n
+  pub found_chained : (key : ℕ) → found_in keys (chained keys n) key ≡ seek keys key n
   unfolding found_in
   found_chained key = let h : remainder_of key < 1021 = omega arith in rw ((linked keys n room).head_at (remainder_of key) h) (follows_is key n 512 room (omega arith))
 
-  pub again_chained : (g : ℕ) → g < n → again_in keys (chained keys n).next g ≡ is_found (seek keys (get_or keys g 0) g)
+  pub again_chained : (g : ℕ) → g < n → again_in keys (chained keys n).next g ≡ is_some (seek keys (get_or keys g 0) g)
   unfolding again_in
-  again_chained g h = rw ((linked keys n room).next_at g h) (ap is_found (follows_is (get_or keys g 0) g 512 (omega arith) (omega arith)))
+  again_chained g h = rw ((linked keys n room).next_at g h) (ap is_some (follows_is (get_or keys g 0) g 512 (omega arith) (omega arith)))

@@ -11,7 +11,7 @@ use Rattle.rules.specs.Basics.{pick}
 use Rattle.rules.specs.Sequence.{Set, Nor}
 use Rattle.rules.proofs.Laws.{no_way}
 use Rattle.lines.specs.Line.{byte_at, bytes_from}
-use Rattle.row.specs.declared.Entry.{Entry}
+use Rattle.std.specs.Prelude.{Some}
 use Rattle.row.specs.Decoded as row
 use Rattle.row.specs.Decoded.{cells_from, first_of, cell_at, end_from, nor_on, next_at, each_line}
 use Rattle.row.proofs.Decoding.{named, cell_is}
@@ -51,7 +51,7 @@ cells_bytes (suc k) text p e = go (cells_from text p) refl e (cells_bytes k text
         → (cells_from text p ≡ byte_at text p ∷ bytes_from text (p + 2) k) × (1 ≤ suc k → p + 2 * suc k ≤ length text)
     go [] q f rec = absurd (omega arith)
     go (c ∷ l) q f rec =
-        let here : first_of (cells_from text p) ≡ Entry.Cell c = rw q in
+        let here : Some c ≡ cell_at text p = rw q in
         let (cells, inside) = named text p c here in
         let count : length (cells_from text (p + 2)) ≡ k = (let z : suc (length (cells_from text (p + 2))) ≡ suc k = sym (ap length cells) ∙ ap length q ∙ f in omega arith) in
         let (more, most) = rec count in

@@ -5,7 +5,7 @@ ghost use Rattle.std.specs.Prelude.{◌≡◌, ◌+◌, ◌*◌, ◌≤◌, leng
 ghost use Rattle.row.specs.Decoded.{cells_from};
 ghost use Rattle.instruction.specs.Line.{instruction_at, idle_at};
 
-use row::Entry;
+use lines::kind::Kind;
 
 // A set line or else a NOR line, where its first cell's digits stand, how many cells it names, and where the next line begins.
 #[derive(Clone, Copy)]
@@ -21,16 +21,11 @@ fn count(text: &[u8], first: usize) -> usize
     requires { first ≤ length text.now + 1 }
     ensures { (result ≡ length (cells_from text.now first)) × (first + 2 * result ≤ length text.now + 1) }
 {
-    let mut at = first;
     let mut k = 0;
-    loop {
-        let n = row::cell_at(text, at);
-        let Entry::Cell(_) = n else {
-            return k;
-        };
-        at += 2;
+    while row::cell_at(text, first + 2 * k).is_some() {
         k += 1;
     }
+    k
 }
 
 // A line that names no cell does nothing.
@@ -41,7 +36,7 @@ fn idle(next: usize) -> Instruction
         set: true,
         first: 0,
         cells: 0,
-        next: next,
+        next,
     }
 }
 
@@ -53,15 +48,14 @@ pub fn instruction_at(text: &[u8], at: usize) -> Instruction
         return idle(at);
     }
     let first = at + 2;
-    let k = count(text, first);
-    if k == 0 {
+    let cells = count(text, first);
+    if cells == 0 {
         return idle(at + 3);
     }
-    let kind = lines::byte_at(text, at);
     Instruction {
-        set: kind == 18,
-        first: first,
-        cells: k,
-        next: first + 2 * k + 1,
+        set: lines::byte_at(text, at) == Kind::Set as usize,
+        first,
+        cells,
+        next: first + 2 * cells + 1,
     }
 }

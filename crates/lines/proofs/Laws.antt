@@ -1,45 +1,18 @@
 -- Laws of digits, lines and bytes at a place.
-use Prim.Native.Nat.{ℕ, suc, ◌+◌, ◌-◌, ◌*◌, ◌/◌, ◌%◌, ◌<◌, ◌≤◌}
-use native.Mathlib.Omega.{arith}
-use native.Mathlib.Numerals.{add-one}
+use Rattle.std.proofs.Common.{ℕ, suc, ◌+◌, ◌-◌, ◌*◌, ◌/◌, ◌%◌, ◌<◌, ◌≤◌, arith, add-one, ◌≡◌, sym, ◌∙◌, true, false, ◌&&◌, List, leb, get_or, length, drop, drop_of_length-le, length-drop, drop-cons, get_or-drop, le-leb, leb-true, eq-eqb, ne_eqb, Result, Ok, Err}
 use native.Mathlib.Decide.{dec_lt}
-use mathlib.Core.Path.{◌≡◌, refl, sym, ◌∙◌}
-use mathlib.Core.Bool.{Bool, true, false, ◌&&◌}
-use mathlib.Core.List.{List}
-use lib.Dec.{ltb, leb}
-use lib.ListN.{get_or, length, set, drop, drop_of_length-le, length-drop, get_or-eq_default}
-use lib.Seq.{set_out, drop-cons, get_or-drop}
-use borrow.Author.Tests.{ltb-true, ltb-false, lt-leb, le-leb, leb-true, eq-eqb, ne_eqb}
+use borrow.Author.Tests.{lt-leb}
 use Rattle.rules.specs.Basics.{pick}
 use Rattle.rules.specs.Form.{form01}
-use Rattle.rules.specs.Lines.{is_digit, value_of, digits, is_line, digit_of}
-use Rattle.rules.proofs.Laws.{by_pick, and_true}
-use Rattle.rules.specs.declared.Answer.{Answer}
-use Rattle.lines.specs.declared.Line.{Line}
-use Rattle.lines.specs.declared.Line.TheVariants.{Frame, Refused}
+use Rattle.rules.specs.Lines.{is_digit, value_of, digits, is_line}
+use Rattle.std.proofs.lemmas.Bool.{and_parts}
+use Rattle.std.proofs.lemmas.List.{get_or_past}
+use Rattle.rules.proofs.Laws.{by_pick}
+use Rattle.rules.specs.declared.Refusal.{Refusal}
+use Rattle.rules.specs.declared.Refusal.TheVariants.{BadLine, WrongFrame}
 use Rattle.lines.specs.Line.{byte_at, word_at, line_at, ends_at, ends_from}
 
 -- ---- one character
-
-pub digit_low : (c : ℕ) → c < 48 → is_digit c ≡ false
-unfolding is_digit
-digit_low c h = simp (lt-leb 48 c h, lt-leb 65 c (omega arith))
-
-pub digit_number : (c : ℕ) → 48 ≤ c → c < 58 → is_digit c ≡ true
-unfolding is_digit
-digit_number c h l = simp (le-leb 48 c h, le-leb c 57 (omega arith))
-
-pub digit_between : (c : ℕ) → 58 ≤ c → c < 65 → is_digit c ≡ false
-unfolding is_digit
-digit_between c h l = simp (le-leb 48 c (omega arith), lt-leb c 57 h, lt-leb 65 c l)
-
-pub digit_letter : (c : ℕ) → 65 ≤ c → is_digit c ≡ ltb c 71
-unfolding is_digit
-digit_letter c h = simp (le-leb 48 c (omega arith), lt-leb c 57 (omega arith), le-leb 65 c h) (go (ltb c 71) refl)
-  where
-    go : (t : Bool) → ltb c 71 ≡ t → leb c 70 ≡ ltb c 71
-    go true e = le-leb c 70 (omega (arith, ltb-true c 71 e)) ∙ sym e
-    go false e = lt-leb c 70 (omega (arith, ltb-false c 71 e)) ∙ sym e
 
 pub value_low : (c : ℕ) → c < 48 → value_of c ≡ 0
 unfolding value_of pick
@@ -88,47 +61,35 @@ pub value_small : (c : ℕ) → value_of c ≤ 15
 unfolding value_of
 value_small c =
     by_pick (λ n. n ≤ 15) (leb 48 c && leb c 57) {x = c - 48} {y = pick (leb 65 c && leb c 70) (c - 55) 0}
-    (λ e. omega (arith, leb-true c 57 (and_true (leb 48 c) (leb c 57) e).1))
-    (λ _. by_pick (λ n. n ≤ 15) (leb 65 c && leb c 70) {x = c - 55} {y = 0} (λ e. omega (arith, leb-true c 70 (and_true (leb 65 c) (leb c 70) e).1))
+    (λ e. omega (arith, leb-true c 57 (and_parts (leb 48 c) (leb c 57) e).1))
+    (λ _. by_pick (λ n. n ≤ 15) (leb 65 c && leb c 70) {x = c - 55} {y = 0} (λ e. omega (arith, leb-true c 70 (and_parts (leb 65 c) (leb c 70) e).1))
     (λ _. omega arith))
 
--- ---- the digits from a place on
+-- ---- the digits that a list begins with
 
--- from a place on there are digits up to i
-pub record Scanned (text : List ℕ) (at i : ℕ) : Type 0 where
-  pub low : at ≤ i
-  pub same : (i - at) + digits (drop i text) ≡ digits (drop at text)
+-- the first i characters are digits
+pub record Scanned (l : List ℕ) (i : ℕ) : Type 0 where
+  pub same : i + digits (drop i l) ≡ digits l
 
-pub scanned_start : (text : List ℕ) (at : ℕ) → Scanned text at at
-scanned_start text at = record { low = omega arith; same = omega arith }
-
-module _ {text : List ℕ} {at i : ℕ} (s : Scanned text at i) where
-  pub scanned_turn : i < length text → is_digit (get_or text i 0) ≡ true → Scanned text at (i + 1)
+module _ {l : List ℕ} {i : ℕ} (s : Scanned l i) where
+  pub scanned_turn : i < length l → is_digit (get_or l i 0) ≡ true → Scanned l (i + 1)
   unfolding digits pick
-  scanned_turn h e = record {
-    low = omega (arith, s.low);
-    same =
-        let z : digits (drop i text) ≡ suc (digits (drop (i + 1) text)) = rw (add-one, drop-cons text i 0 h, e) in
-        omega (arith, s.low, s.same, z);
-  }
+  scanned_turn h e = record { same = let z : digits (drop i l) ≡ suc (digits (drop (i + 1) l)) = rw (add-one, drop-cons l i 0 h, e) in omega (arith, s.same, z) }
 
-  pub scanned_stop : i < length text → is_digit (get_or text i 0) ≡ false → i - at ≡ digits (drop at text)
+  pub scanned_stop : i < length l → is_digit (get_or l i 0) ≡ false → i ≡ digits l
   unfolding digits pick
-  scanned_stop h e = let z : digits (drop i text) ≡ 0 = rw (drop-cons text i 0 h, e) in omega (arith, s.same, z)
+  scanned_stop h e = let z : digits (drop i l) ≡ 0 = rw (drop-cons l i 0 h, e) in omega (arith, s.same, z)
 
-  pub scanned_end : length text ≤ i → i - at ≡ digits (drop at text)
+  pub scanned_end : length l ≤ i → i ≤ length l → length l ≡ digits l
   unfolding digits
-  scanned_end h = let z : digits (drop i text) ≡ 0 = rw (drop_of_length-le text h) in omega (arith, s.same, z)
+  scanned_end h k = let z : digits (drop i l) ≡ 0 = rw (drop_of_length-le l h) in omega (arith, s.same, z)
 
 -- ---- bytes at a place
-
-pub past : (s : List ℕ) (i : ℕ) → length s ≤ i → get_or s i 0 ≡ 0
-past s i h = get_or-eq_default s 0 h
 
 pub byte_past : (s : List ℕ) (i : ℕ) → length s ≤ i → byte_at s i ≡ 0
 unfolding byte_at
 byte_past s i h =
-    rw (past s i h, past s (i + 1) (omega arith), value_low 0 (omega arith))
+    rw (get_or_past s i 0 h, get_or_past s (i + 1) 0 (omega arith), value_low 0 (omega arith))
 
 pub byte_small : (s : List ℕ) (i : ℕ) → byte_at s i ≤ 255
 unfolding byte_at
@@ -149,65 +110,59 @@ pub word_small : (s : List ℕ) (i : ℕ) → word_at s i ≤ 65535
 unfolding word_at
 word_small s i = omega (arith, byte_small s i, byte_small s (i + 2))
 
--- ---- a byte's two digits written; past the buffer's end nothing changes
-
-pub pair_put : (out out₁ out₂ : List ℕ) (at b h l : ℕ) → b < 256 → h ≡ digit_of (b / 16 % 16) → out₁ ≡ set out at h → l ≡ digit_of (b % 16)
-    → out₂ ≡ set out₁ (at + 1) l → out₂ ≡ set (set out at (digit_of (b / 16))) (suc at) (digit_of (b % 16))
-pair_put out out₁ out₂ at b h l small e₁ p₁ e₂ p₂ =
-    let top : b / 16 % 16 ≡ b / 16 = omega arith in
-    rw (p₂, p₁, e₁, e₂, top, add-one)
-
-pub pair_past : (out : List ℕ) (i x y : ℕ) → length out ≤ i → set (set out i x) (suc i) y ≡ out
-pair_past out i x y h = rw (set_out out i x h, set_out out (suc i) y (omega arith))
-
 -- ---- the line at a place
 
-pub line_past : (text : List ℕ) (at : ℕ) → length text ≤ at → Refused (record { number = 2 }) ≡ line_at text at
+pub line_past : (text : List ℕ) (at : ℕ) → length text ≤ at → Err WrongFrame ≡ line_at text at
 unfolding line_at pick
 line_past text at h = rw (le-leb (length text) at h)
 
-module _ (text : List ℕ) (at n : ℕ) (inside : at < length text) (e : n ≡ digits (drop at text)) where
-  pub line_open : length text - at ≤ n → Refused (record { number = 1 }) ≡ line_at text at
+module _ (text rest : List ℕ) (at n : ℕ) (r : rest ≡ drop at text) (e : n ≡ digits rest) (inside : at < length text) where
+  pub line_open : length text - at ≤ n → Err BadLine ≡ line_at text at
   unfolding line_at pick is_line form01
   line_open h =
-      let z : get_or (drop at text) n 0 ≡ 0 = past (drop at text) n (omega (arith, length-drop at text)) in
-      rw (lt-leb (length text) at inside, ← e, z)
+      let z : get_or (drop at text) n 0 ≡ 0 = get_or_past (drop at text) n 0 (omega (arith, length-drop at text)) in
+      rw (lt-leb (length text) at inside, ← r, ← e, r, z)
 
-  module _ (c : ℕ) (ends : get_or text (at + n) 0 ≡ c) where
-    char : get_or (drop at text) n 0 ≡ c
-    char = get_or-drop at text n 0 ∙ ends
+  char : get_or rest n 0 ≡ get_or text (at + n) 0
+  char = rw r (get_or-drop at text n 0)
 
-    pub line_unfed : (c ≡ 10 → ⊥) → Refused (record { number = 1 }) ≡ line_at text at
+  pub line_unfed : (get_or text (at + n) 0 ≡ 10 → ⊥) → Err BadLine ≡ line_at text at
+  unfolding line_at pick is_line form01
+  line_unfed h = rw (lt-leb (length text) at inside, ← r, ← e, char, ne_eqb (get_or text (at + n) 0) 10 h)
+
+  module _ (fed : get_or text (at + n) 0 ≡ 10) where
+    pub line_odd : (n % 2 ≡ 0 → ⊥) → Err BadLine ≡ line_at text at
     unfolding line_at pick is_line form01
-    line_unfed h = rw (lt-leb (length text) at inside, ← e, char, ne_eqb c 10 h)
+    line_odd h = rw (lt-leb (length text) at inside, ← r, ← e, char, eq-eqb (get_or text (at + n) 0) 10 fed, ne_eqb (n % 2) 0 h)
 
-    module _ (fed : c ≡ 10) where
-      pub line_odd : (n % 2 ≡ 0 → ⊥) → Refused (record { number = 1 }) ≡ line_at text at
+    module _ (even : n % 2 ≡ 0) where
+      pub line_empty : n < 2 → Err BadLine ≡ line_at text at
       unfolding line_at pick is_line form01
-      line_odd h = rw (lt-leb (length text) at inside, ← e, char, eq-eqb c 10 fed, ne_eqb (n % 2) 0 h)
+      line_empty h =
+          rw (lt-leb (length text) at inside, ← r, ← e, char, eq-eqb (get_or text (at + n) 0) 10 fed, eq-eqb (n % 2) 0 even, lt-leb 2 n h)
 
-      module _ (even : n % 2 ≡ 0) where
-        pub line_empty : n < 2 → Refused (record { number = 1 }) ≡ line_at text at
-        unfolding line_at pick is_line form01
-        line_empty h = rw (lt-leb (length text) at inside, ← e, char, eq-eqb c 10 fed, eq-eqb (n % 2) 0 even, lt-leb 2 n h)
+      pub line_long : 2 ≤ n → 514 < n → Err BadLine ≡ line_at text at
+      unfolding line_at pick is_line form01
+      line_long l h =
+          rw (lt-leb (length text) at inside, ← r, ← e, char, eq-eqb (get_or text (at + n) 0) 10 fed, eq-eqb (n % 2) 0 even, le-leb 2 n l, lt-leb n 514 h)
 
-        pub line_long : 2 ≤ n → 514 < n → Refused (record { number = 1 }) ≡ line_at text at
-        unfolding line_at pick is_line form01
-        line_long l h =
-            rw (lt-leb (length text) at inside, ← e, char, eq-eqb c 10 fed, eq-eqb (n % 2) 0 even, le-leb 2 n l, lt-leb n 514 h)
-
-        pub line_good : 2 ≤ n → n ≤ 514 → Frame n ≡ line_at text at
-        unfolding line_at pick is_line form01
-        line_good l h =
-            rw (lt-leb (length text) at inside, ← e, char, eq-eqb c 10 fed, eq-eqb (n % 2) 0 even, le-leb 2 n l, le-leb n 514 h)
+      pub line_good : 2 ≤ n → n ≤ 514 → Ok n ≡ line_at text at
+      unfolding line_at pick is_line form01
+      line_good l h =
+          rw (lt-leb (length text) at inside, ← r, ← e, char, eq-eqb (get_or text (at + n) 0) 10 fed, eq-eqb (n % 2) 0 even, le-leb 2 n l, le-leb n 514 h)
 
 -- ---- what follows a place
 
 module _ (text : List ℕ) (at : ℕ) where
-  pub ends_past : length text ≤ at → Answer.Given 0 ≡ ends_at text at
+  pub ends_past : length text ≤ at → Ok tt ≡ ends_at text at
   unfolding ends_at pick
   ends_past h = rw (le-leb (length text) at h)
 
-  pub ends_at_lem : (l : Line) → at < length text → l ≡ line_at text at → ends_from l ≡ ends_at text at
-  unfolding ends_at pick
-  ends_at_lem l h e = rw (lt-leb (length text) at h, e)
+  module _ (l : Result ℕ Refusal) (e : l ≡ line_at text at) (inside : at < length text) where
+    pub ends_bad : (r : Refusal) → l ≡ Err r → Err r ≡ ends_at text at
+    unfolding ends_at ends_from pick
+    ends_bad r f = rw (lt-leb (length text) at inside, ← e, f)
+
+    pub ends_more : (n : ℕ) → l ≡ Ok n → Err WrongFrame ≡ ends_at text at
+    unfolding ends_at ends_from pick
+    ends_more n f = rw (lt-leb (length text) at inside, ← e, f)

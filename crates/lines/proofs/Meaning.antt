@@ -1,25 +1,16 @@
 -- What the line reader answers is what document 01 says of the line: its bytes, the text after it, or its refusal.
-use Prim.Native.Nat.{ℕ, zero, suc, ◌+◌, ◌*◌, ◌/◌, ◌%◌, ◌<◌, ◌≤◌}
-use native.Mathlib.Omega.{arith}
-use native.Mathlib.Numerals.{add-one}
+use Rattle.std.proofs.Common.{ℕ, zero, suc, ◌+◌, ◌*◌, ◌/◌, ◌%◌, ◌<◌, ◌≤◌, arith, add_assoc, add-one, ◌≡◌, refl, sym, ap, ◌∙◌, subst, Bool, true, false, ◌&&◌, List, [], ◌∷◌, eqb, leb, get_or, length, take, drop, drop_of_length-le, length-drop, drop-cons, drop-drop, le-leb, leb-true, eqb-true, Result, Ok, Err}
 use native.Mathlib.Decide.{dec_lt}
-use mathlib.Core.Path.{◌≡◌, refl, sym, ap, ◌∙◌, subst}
-use mathlib.Core.Bool.{Bool, true, false, ◌&&◌}
-use mathlib.Core.List.{List, [], ◌∷◌}
 use mathlib.Core.Option.{none, some}
-use lib.Dec.{eqb, leb}
-use lib.ListN.{get_or, length, take, drop, drop_of_length-le, length-drop, get_or-eq_default}
-use lib.Seq.{drop-cons, drop-drop}
-use borrow.Author.Tests.{lt-leb, le-leb, leb-true, eqb-true}
+use borrow.Author.Tests.{lt-leb}
 use Rattle.rules.specs.declared.Refusal.{Refusal}
-use Rattle.rules.specs.declared.Answer.{Answer}
+use Rattle.rules.specs.declared.Refusal.TheVariants.{BadLine, WrongFrame}
 use Rattle.rules.specs.Basics.{pick}
 use Rattle.rules.specs.Form.{form01, one, two}
-use Rattle.rules.specs.Refusals.{Res, good, refused}
+use Rattle.rules.specs.Refusals.{Res, good, refused, number_of}
 use Rattle.rules.specs.Lines.{value_of, digits, is_line, bytes_in, first_line, line, nothing, numbers, also}
-use Rattle.rules.proofs.Laws.{no_way, and_true}
-use Rattle.lines.specs.declared.Line.{Line}
-use Rattle.lines.specs.declared.Line.TheVariants.{Frame, Refused}
+use Rattle.std.proofs.lemmas.Bool.{and_parts}
+use Rattle.rules.proofs.Lists.{known}
 use Rattle.lines.specs.Line.{byte_at, word_at, bytes_from, words_from, line_at, ends_at, ends_from}
 
 -- ---- what a frame is
@@ -33,21 +24,14 @@ pub record Fits (text : List ℕ) (at n : ℕ) : Type 0 where
   pub good : is_line form01 (drop at text) ≡ true
   pub is : digits (drop at text) ≡ n
 
-feed_inside : (t : List ℕ) (d : ℕ) → get_or t d 0 ≡ 10 → d < length t
-feed_inside t d e = go (dec_lt d (length t))
-  where
-    go : Dec (d < length t) → d < length t
-    go (yes h) = h
-    go (no h) = let z = get_or-eq_default t 0 {n = d} (omega arith) in absurd (omega (arith, e, z))
-
 fits_line : (text : List ℕ) (at : ℕ) → is_line form01 (drop at text) ≡ true → Fits text at (digits (drop at text))
 unfolding is_line form01
 fits_line text at e =
     let d = digits (drop at text) in
-    let a = and_true (eqb (get_or (drop at text) d 0) 10) (eqb (d % 2) 0 && (leb 2 d && leb d 514)) e in
-    let b = and_true (eqb (d % 2) 0) (leb 2 d && leb d 514) a.1 in
-    let c = and_true (leb 2 d) (leb d 514) b.1 in
-    let h = feed_inside (drop at text) d (eqb-true _ _ a.0) in
+    let a = and_parts (eqb (get_or (drop at text) d 0) 10) (eqb (d % 2) 0 && (leb 2 d && leb d 514)) e in
+    let b = and_parts (eqb (d % 2) 0) (leb 2 d && leb d 514) a.1 in
+    let c = and_parts (leb 2 d) (leb d 514) b.1 in
+    let h = known (drop at text) d 10 (eqb-true _ _ a.0) (λ e. omega arith) in
     record {
       inside = omega (arith, h, length-drop at text);
       even = eqb-true _ _ b.0;
@@ -58,15 +42,15 @@ fits_line text at e =
     }
 
 module _ (text : List ℕ) (at : ℕ) where
-  pub frame_fits : (n : ℕ) → line_at text at ≡ Frame n → Fits text at n
+  pub frame_fits : (n : ℕ) → line_at text at ≡ Ok n → Fits text at n
   unfolding line_at pick
   frame_fits n e = go (leb (length text) at) (is_line form01 (drop at text)) refl e
     where
       go : (t u : Bool) → is_line form01 (drop at text) ≡ u
-          → pick t (Refused (record { number = 2 })) (pick u (Frame (digits (drop at text))) (Refused (record { number = 1 }))) ≡ Frame n → Fits text at n
-      go true u q f = absurd (no_way (cc))
+          → pick t (Err WrongFrame) (pick u (Ok (digits (drop at text))) (Err BadLine)) ≡ Ok n → Fits text at n
+      go true u q f = cc
       go false true q f = let z : digits (drop at text) ≡ n = cc in subst (Fits text at) z (fits_line text at q)
-      go false false q f = absurd (no_way (cc))
+      go false false q f = cc
 
 -- ---- the bytes of a frame
 
@@ -87,7 +71,7 @@ bytes_are (suc k) text at h =
         → (16 * value_of (get_or text at 0) + value_of (get_or text (at + 1) 0)) ∷ bytes_from text (at + 2) k ≡ byte_at text at ∷ bytes_from text (at + 2) k
     byte k text at = refl
 
-module _ (text : List ℕ) (at n : ℕ) (e : line_at text at ≡ Frame n) where
+module _ (text : List ℕ) (at n : ℕ) (e : line_at text at ≡ Ok n) where
   fits : Fits text at n
   fits = frame_fits text at n e
 
@@ -106,27 +90,27 @@ module _ (text : List ℕ) (at n : ℕ) (e : line_at text at ≡ Frame n) where
     where
       go : (t : List ℕ) → t ≡ get_or text at 0 ∷ drop (suc at) text → is_line form01 t ≡ true → digits t ≡ n → bytes_in (take n t) ≡ bytes_from text at (n / 2)
           → drop (suc n) t ≡ drop (at + n + 1) text → line form01 t ≡ good (record { bytes = bytes_from text at (n / 2); rest = drop (at + n + 1) text })
-      go [] c g d b t = absurd (no_way (cc))
+      go [] c g d b t = cc
       go (x ∷ l) c g d b t = rw (g, d, b, t)
 
-pub line_not : (text : List ℕ) (at : ℕ) (r : Refusal) → line_at text at ≡ Refused r → line form01 (drop at text) ≡ refused r
+pub line_not : (text : List ℕ) (at : ℕ) (r : Refusal) → line_at text at ≡ Err r → line form01 (drop at text) ≡ refused (number_of r)
 unfolding line_at line pick
 line_not text at r e = go (dec_lt at (length text))
   where
-    bad : (u : Bool) (l : List ℕ) → is_line form01 l ≡ u → pick u (Frame (digits l)) (Refused (record { number = 1 })) ≡ Refused r
-        → pick u (good (first_line l)) (refused (record { number = 1 })) ≡ refused r
-    bad true l q f = absurd (no_way (cc))
+    bad : (u : Bool) (l : List ℕ) → is_line form01 l ≡ u → pick u (Ok (digits l)) (Err BadLine) ≡ Err r
+        → pick u (good (first_line l)) (refused 1) ≡ refused (number_of r)
+    bad true l q f = cc
     bad false l q f = cc
 
-    go : Dec (at < length text) → line form01 (drop at text) ≡ refused r
+    go : Dec (at < length text) → line form01 (drop at text) ≡ refused (number_of r)
     go (yes h) =
         let c = drop-cons text at 0 h in
-        let f : pick (is_line form01 (drop at text)) (Frame (digits (drop at text))) (Refused (record { number = 1 })) ≡ Refused r =
+        let f : pick (is_line form01 (drop at text)) (Ok (digits (drop at text))) (Err BadLine) ≡ Err r =
         rw (lt-leb (length text) at h) at e in
         rw c (bad (is_line form01 (get_or text at 0 ∷ drop (suc at) text)) (get_or text at 0 ∷ drop (suc at) text) refl (rw c at f))
     go (no h) =
         let p : length text ≤ at = omega arith in
-        let f : Refused (record { number = 2 }) ≡ Refused r = rw (le-leb (length text) at p) at e in
+        let f : Err WrongFrame ≡ Err r = rw (le-leb (length text) at p) at e in
         rw (drop_of_length-le text p) (cc)
 
 -- ---- numbers of a frame's bytes
@@ -136,13 +120,10 @@ unfolding numbers also
 numbers_one [] = refl
 numbers_one (a ∷ l) = rw (numbers_one l)
 
-four_more : (k at : ℕ) → at + 2 + 2 ≡ at + 4
-four_more k at = omega arith
-
 pub words_are : (k : ℕ) (text : List ℕ) (at : ℕ) → numbers two (bytes_from text at (2 * k)) ≡ some (words_from text at k)
 unfolding numbers also bytes_from words_from word_at
 words_are zero text at = refl
-words_are (suc k) text at = rw (two_more k, four_more k at, words_are k text (at + 4))
+words_are (suc k) text at = rw (two_more k, add_assoc, words_are k text (at + 4))
 
 pub words_odd : (k : ℕ) (text : List ℕ) (at : ℕ) → numbers two (bytes_from text at (suc (2 * k))) ≡ none
 unfolding numbers also bytes_from
@@ -152,34 +133,34 @@ words_odd (suc k) text at = rw (two_more k, words_odd k text (at + 2 + 2))
 -- ---- nothing follows
 
 module _ (text : List ℕ) (at : ℕ) where
-  pub ends_good : (n : ℕ) → ends_at text at ≡ Answer.Given n → nothing form01 (drop at text) ≡ good tt
+  pub ends_good : ends_at text at ≡ Ok tt → nothing form01 (drop at text) ≡ good tt
   unfolding ends_at ends_from nothing pick
-  ends_good n e = go (dec_lt at (length text))
+  ends_good e = go (dec_lt at (length text))
     where
-      none_given : (l : Line) → ends_from l ≡ Answer.Given n → ⊥
-      none_given (Frame m) f = no_way (cc)
-      none_given (Refused r) f = no_way (cc)
+      none_given : (l : Result ℕ Refusal) → ends_from l ≡ Ok tt → ⊥
+      none_given (Ok m) f = cc
+      none_given (Err r) f = cc
 
       go : Dec (at < length text) → nothing form01 (drop at text) ≡ good tt
       go (yes h) = absurd (none_given (line_at text at) (rw (lt-leb (length text) at h) at e))
       go (no h) = rw (drop_of_length-le text {i = at} (omega arith))
 
-  pub ends_refused : (r : Refusal) → ends_at text at ≡ Answer.Refused r → nothing form01 (drop at text) ≡ refused r
+  pub ends_refused : (r : Refusal) → ends_at text at ≡ Err r → nothing form01 (drop at text) ≡ refused (number_of r)
   unfolding ends_at ends_from line_at nothing pick
   ends_refused r e = go (dec_lt at (length text))
     where
       bad : (u : Bool) (l : List ℕ) → is_line form01 l ≡ u
-          → ends_from (pick u (Frame (digits l)) (Refused (record { number = 1 }))) ≡ Answer.Refused r
-          → ◌≡◌ {A = Res (Unit {0})} (pick u (refused (record { number = 2 })) (refused (record { number = 1 }))) (refused r)
+          → ends_from (pick u (Ok (digits l)) (Err BadLine)) ≡ Err r
+          → ◌≡◌ {A = Res (Unit {0})} (pick u (refused 2) (refused 1)) (refused (number_of r))
       bad true l q f = cc
       bad false l q f = cc
 
-      go : Dec (at < length text) → nothing form01 (drop at text) ≡ refused r
+      go : Dec (at < length text) → nothing form01 (drop at text) ≡ refused (number_of r)
       go (yes h) =
           let c = drop-cons text at 0 h in
-          let f : ends_from (pick (is_line form01 (drop at text)) (Frame (digits (drop at text))) (Refused (record { number = 1 }))) ≡ Answer.Refused r =
+          let f : ends_from (pick (is_line form01 (drop at text)) (Ok (digits (drop at text))) (Err BadLine)) ≡ Err r =
           rw (lt-leb (length text) at h) at e in
           rw c (bad (is_line form01 (get_or text at 0 ∷ drop (suc at) text)) (get_or text at 0 ∷ drop (suc at) text) refl (rw c at f))
       go (no h) =
-          let f : Answer.Given 0 ≡ Answer.Refused r = rw (le-leb (length text) at (omega arith)) at e in
-          absurd (no_way (cc))
+          let f : Ok tt ≡ Err r = rw (le-leb (length text) at (omega arith)) at e in
+          cc

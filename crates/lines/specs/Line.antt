@@ -1,31 +1,23 @@
 -- What the line reader answers, in terms of document 01's rule for lines.
 -- Assumes nothing.
-use Rattle.std.specs.Prelude.{ℕ, zero, suc, ◌+◌, ◌*◌, List, [], ◌∷◌, leb, get_or, length, drop}
+use Rattle.std.specs.Prelude.{ℕ, zero, suc, ◌+◌, ◌*◌, List, [], ◌∷◌, leb, get_or, length, drop, Result, Ok, Err}
 use Rattle.rules.specs.declared.Refusal.{Refusal}
-use Rattle.rules.specs.declared.Answer.{Answer}
+use Rattle.rules.specs.declared.Refusal.TheVariants.{BadLine, WrongFrame}
 use Rattle.rules.specs.Basics.{pick}
 use Rattle.rules.specs.Form.{form01}
 use Rattle.rules.specs.Lines.{value_of, digits, is_line}
-use Rattle.lines.specs.declared.Line.{Line}
-use Rattle.lines.specs.declared.Line.TheVariants.{Frame, Refused}
 
--- the line at a place of a text
-unfoldable pub line_at : List ℕ → ℕ → Line
-line_at text at =
-    pick (leb (length text) at) (Refused (record { number = 2 }))
-    (pick (is_line form01 (drop at text)) (Frame (digits (drop at text))) (Refused (record { number = 1 })))
+-- the line at a place of a text: how many digits it has, or its refusal
+unfoldable pub line_at : List ℕ → ℕ → Result ℕ Refusal
+line_at text at = pick (leb (length text) at) (Err WrongFrame) (pick (is_line form01 (drop at text)) (Ok (digits (drop at text))) (Err BadLine))
 
--- nothing follows a place: 0, or the refusal of what stands there
-unfoldable pub ends_from : Line → Answer
-ends_from (Frame n) = Answer.Refused (record { number = 2 })
-ends_from (Refused r) = Answer.Refused r
+-- nothing follows a place, or the refusal of what stands there
+unfoldable pub ends_from : Result ℕ Refusal → Result (Unit {0}) Refusal
+ends_from (Ok n) = Err WrongFrame
+ends_from (Err r) = Err r
 
-unfoldable pub ends_at : List ℕ → ℕ → Answer
-ends_at text at = pick (leb (length text) at) (Answer.Given 0) (ends_from (line_at text at))
-
-abbrev pub refusal_of : Line → Refusal
-refusal_of (Frame n) = record { number = 0 }
-refusal_of (Refused r) = r
+unfoldable pub ends_at : List ℕ → ℕ → Result (Unit {0}) Refusal
+ends_at text at = pick (leb (length text) at) (Ok tt) (ends_from (line_at text at))
 
 -- the byte whose two digits stand at a place; the two-byte number whose four digits stand there
 unfoldable pub byte_at : List ℕ → ℕ → ℕ

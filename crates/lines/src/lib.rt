@@ -2,120 +2,76 @@
 #![tactic(auto)]
 
 ghost use Rattle.std.specs.Prelude.{◌≡◌, ◌+◌, drop};
-ghost use Rattle.rules.specs.Basics.{within};
 ghost use Rattle.rules.specs.Lines.{is_digit, value_of, digits};
-ghost use Rattle.lines.specs.Line.{line_at, ends_at, byte_at, word_at, refusal_of};
+ghost use Rattle.lines.specs.Line.{line_at, ends_at, byte_at, word_at};
 
-use rules::{Answer, Refusal};
+use rules::Refusal;
 
+pub mod kind;
 pub mod write;
 
-// How the line at a place reads: so many digits with the line feed right after them, or the refusal.
-#[derive(Clone, Copy)]
-pub enum Line {
-    Frame(usize),
-    Refused(Refusal),
-}
-
-// The refusal of a line that is no frame.
-pub fn refusal(l: Line) -> Refusal
-    ensures { result ≡ refusal_of l }
-{
-    match l {
-        Line::Frame(_) => Refusal { number: 0 },
-        Line::Refused(r) => r,
-    }
-}
-
+#[tactic(auto, unfolding(rules::specs::Lines::is_digit))]
 fn is_digit(c: u8) -> bool
     ensures { result ≡ is_digit c }
 {
-    if c < 48 {
-        return false;
-    }
-    if c < 58 {
-        return true;
-    }
-    if c < 65 {
-        return false;
-    }
-    c < 71
+    (b'0'..=b'9').contains(&c) || (b'A'..=b'F').contains(&c)
 }
 
 // What a digit stands for; any other character counts 0. No branch tells 0-9 from A-F: their mixture cannot be foreseen.
+#[tactic(auto, using(crate::proofs::Laws::value_low, crate::proofs::Laws::value_high, crate::proofs::Laws::value_gap, crate::proofs::Laws::value_none, crate::proofs::Laws::value_quick))]
 fn value(c: u8) -> u8
     ensures { result ≡ value_of c }
 {
-    if c < 48 {
-        return 0;
-    }
-    if 70 < c {
+    if c < b'0' || b'F' < c {
         return 0;
     }
     let letter = c / 64;
     let low = c % 16;
-    if low < letter {
-        return 0;
-    }
-    if 10 - letter * 4 <= low - letter {
+    if low < letter || 10 - letter * 4 <= low - letter {
         return 0;
     }
     low + letter * 9
 }
 
-// How many digits stand from a place on.
-fn digits_at(text: &[u8], at: usize) -> usize
-    ensures { result ≡ digits (drop at text.now) }
+// How many digits a text begins with.
+fn digits(text: &[u8]) -> usize
+    ensures { result ≡ digits text.now }
 {
-    let mut i = at;
-    while i < text.len() {
-        if !is_digit(text[i]) {
-            return i - at;
+    for (i, &c) in text.iter().enumerate() {
+        if !is_digit(c) {
+            return i;
         }
-        i += 1;
     }
-    i - at
+    text.len()
 }
 
-// The line at a place: 2 at the text's end, 1 where the line breaks the rule for lines.
-#[tactic(auto, using(crate::proofs::Laws::line_long))]
-pub fn read_line(text: &[u8], at: usize) -> Line
+// The line at a place: how many digits it has, with the line feed right after them.
+#[tactic(auto, using(crate::proofs::Laws::line_past, crate::proofs::Laws::line_open, crate::proofs::Laws::line_unfed, crate::proofs::Laws::line_odd, crate::proofs::Laws::line_empty, crate::proofs::Laws::line_long, crate::proofs::Laws::line_good))]
+pub fn read_line(text: &[u8], at: usize) -> Result<usize, Refusal>
     ensures { result ≡ line_at text.now at }
 {
     if text.len() <= at {
-        return Line::Refused(Refusal { number: 2 });
+        return Err(Refusal::WrongFrame);
     }
-    let n = digits_at(text, at);
-    if text.len() - at <= n {
-        return Line::Refused(Refusal { number: 1 });
+    let n = digits(slices::rest(text, at));
+    if text.len() - at <= n || text[at + n] != b'\n' || n % 2 != 0 || n < 2 || 514 < n {
+        return Err(Refusal::BadLine);
     }
-    if text[at + n] != 10 {
-        return Line::Refused(Refusal { number: 1 });
-    }
-    if n % 2 != 0 {
-        return Line::Refused(Refusal { number: 1 });
-    }
-    if n < 2 {
-        return Line::Refused(Refusal { number: 1 });
-    }
-    if 514 < n {
-        return Line::Refused(Refusal { number: 1 });
-    }
-    Line::Frame(n)
+    Ok(n)
 }
 
-// Whether the text has ended at a place; else 2 if a good line stands there, 1 if a bad one does.
-pub fn ends(text: &[u8], at: usize) -> Answer
+// Whether the text has ended at a place; else a frame too many if a good line stands there.
+#[tactic(auto, using(crate::proofs::Laws::ends_past, crate::proofs::Laws::ends_bad, crate::proofs::Laws::ends_more))]
+pub fn ends(text: &[u8], at: usize) -> Result<(), Refusal>
     ensures { result ≡ ends_at text.now at }
 {
     if text.len() <= at {
-        return Answer::Given(0);
+        return Ok(());
     }
-    let l = read_line(text, at);
-    match l {
-        Line::Frame(_) => Answer::Refused(Refusal { number: 2 }),
-        Line::Refused(r) => Answer::Refused(r),
-    }
+    let Err(r) = read_line(text, at) else {
+        return Err(Refusal::WrongFrame);
+    };
+    Err(r)
 }
 
 // The byte whose two digits stand at a place.
@@ -126,8 +82,8 @@ pub fn byte_at(text: &[u8], at: usize) -> usize
         return 0;
     }
     let h = value(text[at]);
-    let l = value(slices::at8(text, at + 1));
-    (h as usize) * 16 + (l as usize)
+    let l = value(slices::at(text, at + 1, 0));
+    usize::from(h) * 16 + usize::from(l)
 }
 
 // The two-byte number whose four digits stand at a place.
@@ -141,14 +97,4 @@ pub fn word_at(text: &[u8], at: usize) -> usize
         return byte_at(text, at) * 256;
     }
     byte_at(text, at) * 256 + byte_at(text, at + 2)
-}
-
-// Whether a number is within its least and its most.
-pub fn is_within(least: usize, most: usize, x: usize) -> bool
-    ensures { result ≡ within least most x }
-{
-    if x < least {
-        return false;
-    }
-    x <= most
 }

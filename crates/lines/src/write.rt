@@ -1,9 +1,11 @@
 // Texts written into a lent buffer. What falls past the buffer's end is not written, so every call takes any buffer and any place.
 ghost use Rattle.std.specs.Prelude.{◌≡◌, ◌/◌, ◌%◌, [], ◌∷◌};
 ghost use Rattle.std.proofs.lemmas.List.Edits.{sets};
+ghost use Rattle.rules.specs.Refusals.{number_of};
 ghost use Rattle.rules.specs.Lines.{digit_of};
 ghost use Rattle.rules.specs.Programs.{refusal_line};
 
+use crate::kind::Kind;
 use rules::Refusal;
 
 // The digit for the last four bits of a number.
@@ -12,9 +14,9 @@ fn digit(v: u8) -> u8
 {
     let d = v % 16;
     if d < 10 {
-        return d + 48;
+        return d + b'0';
     }
-    d + 55
+    d - 10 + b'A'
 }
 
 // The two digits of a byte at a place.
@@ -22,16 +24,16 @@ pub fn put_byte(out: &mut [u8], at: usize, b: u8)
     ensures { out.new ≡ sets out.old at (digit_of (b / 16) ∷ digit_of (b % 16) ∷ []) }
 {
     if at < out.len() {
-        slices::put8(out, at, digit(b / 16));
-        slices::put8(out, at + 1, digit(b));
+        slices::put(out, at, digit(b / 16));
+        slices::put(out, at + 1, digit(b));
     }
 }
 
 // The line that the programs print for a refusal, at the front: 1F and the number in one byte.
 pub fn put_refusal(out: &mut [u8], r: Refusal)
-    ensures { out.new ≡ sets out.old 0 (refusal_line r) }
+    ensures { out.new ≡ sets out.old 0 (refusal_line (number_of r)) }
 {
-    put_byte(out, 0, 31);
-    put_byte(out, 2, r.number);
-    slices::put8(out, 4, 10);
+    put_byte(out, 0, Kind::Refusal as u8);
+    put_byte(out, 2, r.number());
+    slices::put(out, 4, b'\n');
 }

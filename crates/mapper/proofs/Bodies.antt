@@ -1,131 +1,90 @@
 -- The lines behind the head: from the plan and the run to the rule's mapping.
 -- Assumes nothing.
-use Prim.Native.Nat.{ℕ, ◌+◌, ◌*◌, ◌<◌, ◌≤◌}
+use Prim.Native.Nat.{ℕ, ◌≤◌}
 use native.Mathlib.Omega.{arith}
-use native.Mathlib.Decide.{dec_lt}
-use mathlib.Core.Path.{◌≡◌, refl, sym, ap, ◌∙◌, subst}
-use mathlib.Core.List.{List, [], ◌∷◌, map}
+use mathlib.Core.Path.{◌≡◌, refl, sym, ap, ◌∙◌}
+use mathlib.Core.List.{List, [], ◌∷◌, ◌++◌, map}
 use borrow.Author.Tests.{lt-ltb, le-ltb}
-use lib.ListN.{get_or, length, take, length-append, length-map, get_or-eq_default}
-use lib.Seq.{sets}
-use Rattle.rules.specs.Basics.{pick, upto}
+use lib.ListN.{length, take}
+use lib.Seq.{length-take-le}
+use Rattle.rules.specs.Basics.{pick}
 use Rattle.rules.specs.Form.{form01}
-use Rattle.rules.specs.Refusals.{Res, good, refuse, ◌>>=◌, ◌>>◌, require}
+use Rattle.rules.specs.Refusals.{Res, good, refused, ◌>>=◌, ◌>>◌, require}
 use Rattle.rules.specs.Sequence.{place_text, texts}
 use Rattle.rules.specs.Order.{order}
 use Rattle.rules.specs.Cells.{State, cell_of}
 use Rattle.rules.specs.Mapping.{sequence_from, mapped_by, mapped}
-use Rattle.rules.proofs.Lists.{length-upto}
 use Rattle.netlist.specs.declared.Netlist.{Netlist}
 use Rattle.netlist.specs.Flat.{from, netlist_in}
-use Rattle.netlist.specs.Well.{WellFlat}
 use Rattle.netlist.proofs.Arrays.{length_from}
 use Rattle.order.specs.declared.Plan.{Plan}
-use Rattle.order.specs.Sort.{zeros}
-use Rattle.order.specs.Plan.{order_in, wanted_in, Planned}
-use Rattle.order.proofs.Lists.{get_or-sets_in, get_or-sets_other}
-use Rattle.order.proofs.Orders.{zeros_blank, zeros_length, order_steps}
+use Rattle.order.specs.Plan.{order_in, wanted_in}
+use Rattle.order.proofs.Orders.{order_steps}
 use Rattle.order.proofs.Bounds.{flat_fits, well_flat}
-use Rattle.mapper.specs.declared.mapping.Outcome.{Outcome}
-use Rattle.mapper.specs.declared.mapping.Outcome.TheVariants.{Fits, NoRoom}
-use Rattle.mapper.specs.Text.{Written, entry}
+use Rattle.mapper.specs.declared.cells.Cells.{Cells}
+use Rattle.mapper.specs.declared.signals.Signals.{Signals}
+use Rattle.mapper.specs.Held.{first_cells}
+use Rattle.mapper.specs.Text.{entry}
 use Rattle.mapper.specs.Wanted.{Wanted}
-use Rattle.mapper.specs.Run.{opened, ran, Mapped, RunOf, Runnable}
-use Rattle.mapper.specs.Whole.{body_text, Bodied}
-use Rattle.mapper.proofs.Writing.{written_join, place_length}
+use Rattle.mapper.specs.Run.{opened, ran, Seated, Mapped, Runnable}
+use Rattle.mapper.specs.Whole.{Due, body_text, Bodied}
 
-places_long : (cs : List ℕ) → length (texts (place_text form01) cs) ≡ 5 * length cs
-unfolding texts
-places_long [] = refl
-places_long (c ∷ cs) = length-append (place_text form01 c) (texts (place_text form01) cs) ∙ omega (arith, place_length c, places_long cs)
+pub body_no_row : (n : Netlist) (row : ℕ) → row ≤ n.inputs → mapped (netlist_in n) row ≡ refused 9
+unfolding mapped netlist_in ◌>>◌ require
+body_no_row n row h = rw (le-ltb n.inputs row h)
 
--- ---- what the run is handed
-
-module _ (n : Netlist) (w : WellFlat n) {plan : Plan} (p : Planned n plan) where
+module _ (n : Netlist) (row : ℕ) {plan : Plan} (d : Due n row plan) where
   plan_order : take plan.count plan.seq ≡ order (netlist_in n)
   unfolding order_in pick
-  plan_order = p.order ∙ rw (well_flat n w)
+  plan_order = d.planned.order ∙ rw (well_flat n d.well)
 
   plan_wanted : Wanted n [] plan.left
   unfolding wanted_in pick
-  plan_wanted = record { is = λ s. p.wanted s ∙ rw (well_flat n w) }
+  plan_wanted = record { is = λ s. d.planned.wanted s ∙ rw (well_flat n d.well) }
 
--- inputs in their cells
-seated : (inputs : ℕ) → inputs ≤ 64 → (cell : List ℕ) → cell ≡ sets (zeros 576) 0 (upto 0 inputs) → (s : ℕ) → get_or cell s 0 ≡ get_or (upto 0 inputs) s 0
-seated inputs h cell e s = rw e (go (dec_lt s inputs))
-  where
-    go : Dec (s < inputs) → get_or (sets (zeros 576) 0 (upto 0 inputs)) s 0 ≡ get_or (upto 0 inputs) s 0
-    go (yes l) =
-        let z : 0 + s ≡ s = omega arith in
-        rw z at (get_or-sets_in (upto 0 inputs) (zeros 576) 0 s (omega (arith, length-upto 0 inputs, zeros_length 576)) (omega (arith, length-upto 0 inputs)))
-    go (no l) =
-        get_or-sets_other (upto 0 inputs) (zeros 576) 0 s (λ a b. l (omega (arith, length-upto 0 inputs))) ∙ (zeros_blank 576).all s
-        ∙ sym (get_or-eq_default (upto 0 inputs) 0 (omega (arith, l, length-upto 0 inputs)))
+  module _ {st₀ : Cells} (f : st₀ ≡ first_cells n.inputs row) where
+    row_is : st₀.row ≡ row
+    row_is = ap (λ (c : Cells). c.row) f
 
-module _ (n : Netlist) (w : WellFlat n) (row : ℕ) (room : n.inputs < row) {plan : Plan} (p : Planned n plan) where
-  pub plan_runnable : row ≤ 256 → length plan.seq ≡ 576 → {cell : List ℕ} → cell ≡ sets (zeros 576) 0 (upto 0 n.inputs) → length cell ≡ 576
-      → Runnable n row plan.count plan.seq plan.left cell
-  plan_runnable h l {cell} e k = record {
-    well = w;
-    room = room;
-    size = h;
-    fits = omega (arith, p.fits, l);
-    most = p.fits;
-    steps = rw (plan_order n w p) (order_steps n (flat_fits n (well_flat n w)));
-    wanted = plan_wanted n w p;
-    wide = omega (arith, k, w.inputs_most, w.gates_most);
-    seated = seated n.inputs w.inputs_most cell e;
-  }
+    -- what the run is handed
+    pub plan_runnable : plan.count ≤ length plan.seq → {g : Signals} → Seated n.inputs plan.left g → {text : List ℕ} → text ≡ [] → Runnable n st₀.row (take plan.count plan.seq) st₀ g text
+    plan_runnable l s e = record {
+      well = d.well;
+      room = rw row_is d.room;
+      size = rw row_is d.size;
+      most = omega (arith, length-take-le plan.count plan.seq l, d.planned.fits);
+      steps = rw plan_order (order_steps n (flat_fits n (well_flat n d.well)));
+      wanted = rw s.left_is plan_wanted;
+      first = f ∙ ap (first_cells n.inputs) (sym row_is);
+      seated = record { inputs_in = s.inputs_in; others = s.others; left_is = refl; wide = s.wide };
+      empty = e;
+    }
 
-  -- ---- the rule's mapping, by the run
+    -- the rule's mapping, by the run
+    mapped_is : {r : Res State} → ran n st₀.row (take plan.count plan.seq) ≡ r
+        → mapped (netlist_in n) row ≡ (r >>= λ end. good (sequence_from (netlist_in n) row end))
+    unfolding mapped mapped_by ran opened netlist_in ◌>>◌ require
+    mapped_is {r} e = rw (lt-ltb n.inputs row d.room) (ap (λ x. x >>= λ end. good (sequence_from (netlist_in n) row end)) (rw (row_is, plan_order) at e))
 
-  mapped_is : {r : Res State} → ran n row (take plan.count plan.seq) ≡ r → mapped (netlist_in n) row ≡ (r >>= λ end. good (sequence_from (netlist_in n) row end))
-  unfolding mapped mapped_by ran opened netlist_in ◌>>◌ require
-  mapped_is {r} e = rw (lt-ltb n.inputs row room) (ap (λ x. x >>= λ end. good (sequence_from (netlist_in n) row end)) (rw (plan_order n w p) at e))
+    pub body_none : {r : ℕ} → ran n st₀.row (take plan.count plan.seq) ≡ refused r → mapped (netlist_in n) row ≡ refused r
+    unfolding ◌>>=◌
+    body_none e = mapped_is e
 
-  module _ (cell out out' : List ℕ) (r : Outcome) (d : RunOf n row (take plan.count plan.seq) cell out out' r) where
-    pub body_none : r ≡ NoRoom → mapped (netlist_in n) row ≡ refuse 9
-    unfolding RunOf ◌>>=◌
-    body_none e = mapped_is (subst (RunOf n row (take plan.count plan.seq) cell out out') e d)
-
-    module _ (at lines : ℕ) (e : r ≡ Fits at lines) where
-      ran_well : Mapped n row (take plan.count plan.seq) cell out out' at lines
-      unfolding RunOf
-      ran_well = subst (RunOf n row (take plan.count plan.seq) cell out out') e d
-
-      pub body_short : at ≤ 60000
-      body_short = omega (arith, ran_well.short)
-
-      pub body_some : {out'' : List ℕ} {end : ℕ} → Written out' at (texts (place_text form01) (map (entry cell) (from n.outs 0 n.outputs))) out'' end
-          → Bodied n row out out'' end lines
-      unfolding ◌>>=◌ body_text sequence_from netlist_in
-      body_some {out''} {end} x =
-          let cells : map (entry cell) (from n.outs 0 n.outputs) ≡ map (cell_of ran_well.end.slots) (from n.outs 0 n.outputs) =
-          same (from n.outs 0 n.outputs) in
-          record {
-            sequence = sequence_from (netlist_in n) row ran_well.end;
-            is = mapped_is ran_well.is;
-            rows = refl;
-            inputs = refl;
-            outputs = length_from n.outs 0 n.outputs;
-            text = written_join ran_well.text (rw cells at x);
-            count = ran_well.count;
-            short = omega (
-              arith,
-              x.end,
-              ran_well.short,
-              places_long (map (entry cell) (from n.outs 0 n.outputs)),
-              length-map (from n.outs 0 n.outputs) (entry cell),
-              length_from n.outs 0 n.outputs,
-              w.outputs_most,
-            );
-            few = ran_well.few;
-          }
-        where
-          same : (l : List ℕ) → map (entry cell) l ≡ map (cell_of ran_well.end.slots) l
-          same [] = refl
-          same (o ∷ l) = rw (ran_well.table o, same l)
-
-pub body_no_row : (n : Netlist) (row : ℕ) → row ≤ n.inputs → mapped (netlist_in n) row ≡ refuse 9
-unfolding mapped netlist_in ◌>>◌ require
-body_no_row n row h = rw (le-ltb n.inputs row h)
+    pub body_some : {st : Cells} {g : Signals} {text text' : List ℕ} → Mapped n st₀.row (take plan.count plan.seq) st g text
+        → text' ≡ text ++ texts (place_text form01) (map (entry g.table) (from n.outs 0 n.outputs)) → Bodied n row text' st.lines
+    unfolding ◌>>=◌ body_text sequence_from netlist_in
+    body_some {st} {g} x e =
+        record {
+          sequence = sequence_from (netlist_in n) row x.end;
+          is = mapped_is x.is;
+          rows = refl;
+          inputs = refl;
+          outputs = length_from n.outs 0 n.outputs;
+          text_is = e ∙ rw (x.text_is, same (from n.outs 0 n.outputs));
+          count = x.count;
+          few = x.few;
+        }
+      where
+        same : (l : List ℕ) → map (entry g.table) l ≡ map (cell_of x.end.slots) l
+        same [] = refl
+        same (o ∷ l) = rw (x.table o, same l)

@@ -3,11 +3,11 @@
 use Prim.Native.Nat.{ℕ, zero, suc, ◌+◌, ◌-◌, ◌<◌, ◌≤◌}
 use native.Mathlib.Omega.{arith}
 use native.Mathlib.Decide.{ℕ_discrete}
-use mathlib.Core.Path.{◌≡◌, refl, ◌∙◌}
+use native.Mathlib.Numerals.{add-one}
+use mathlib.Core.Path.{◌≡◌, ◌∙◌}
 use mathlib.Core.List.{List, [], ◌∷◌}
-use lib.ListN.{get_or, length, set, length-set}
-use lib.Seq.{get_or-set_same, get_or-set_other}
-use Rattle.netlist.specs.Flat.{from}
+use lib.ListN.{get_or, length, drop, set, length-set, drop_of_length-le}
+use lib.Seq.{get_or-set_same, get_or-set_other, drop-cons}
 use Rattle.order.specs.Wanted.{times}
 use Rattle.order.proofs.Counting.{times_self, times_other}
 use Rattle.mapper.specs.Wanted.{Counted, CountedDown}
@@ -27,46 +27,33 @@ inside [] o h = absurd (omega arith)
 inside (x ∷ l) zero h = omega arith
 inside (x ∷ l) (suc o) h = omega (arith, inside l o h)
 
-pub record CountingDown (list : List ℕ) (at n : ℕ) (left₀ left : List ℕ) (k : ℕ) : Type 0 where
-  pub inside : k ≤ n
+-- those from i on are left to count
+pub record CountingDown (os left₀ left : List ℕ) (i : ℕ) : Type 0 where
   pub wide : length left ≡ length left₀
-  pub same : (s : ℕ) → get_or left s 0 + times s (from list at n) ≡ get_or left₀ s 0 + times s (from list (at + k) (n - k))
+  pub same : (s : ℕ) → get_or left s 0 + times s os ≡ get_or left₀ s 0 + times s (drop i os)
 
-module _ {list : List ℕ} {at n : ℕ} {left₀ : List ℕ} where
-  pub down_start : CountingDown list at n left₀ left₀ 0
-  down_start =
-      let p : at + 0 ≡ at = omega arith in
-      let q : n - 0 ≡ n = omega arith in
-      record { inside = omega arith; wide = refl; same = λ s. rw (p, q) }
+module _ {os left₀ left : List ℕ} {i : ℕ} (w : CountingDown os left₀ left i) where
+  module _ (h : i < length os) (d : Counted os left₀) {o c : ℕ} (e : o ≡ get_or os i 0) (f : c ≡ get_or left o 0) where
+    next : drop i os ≡ o ∷ drop (i + 1) os
+    next = rw (e, add-one i) (drop-cons os i 0 h)
 
-  module _ {left : List ℕ} {k : ℕ} (w : CountingDown list at n left₀ left k) (h : k < n) where
-    next : from list (at + k) (n - k) ≡ get_or list (at + k) 0 ∷ from list (at + k + 1) (n - (k + 1))
-    unfolding from
-    next = let i : n - k ≡ suc (n - (k + 1)) = omega arith in rw i
-
-    pub down_some : {o c : ℕ} → Counted (from list at n) left₀ → o ≡ get_or list (at + k) 0 → c ≡ get_or left o 0 → 1 ≤ c
-    down_some {o} {c} d e f =
-        let t : times o (from list (at + k) (n - k)) ≡ suc (times o (from list (at + k + 1) (n - (k + 1)))) = rw (next, ← e, times_self) in
+    pub down_some : 1 ≤ c
+    down_some =
+        let t : times o (drop i os) ≡ suc (times o (drop (i + 1) os)) = rw (next, times_self) in
         omega (arith, f, w.same o, d.enough o, t)
 
-    pub down_turn : {o c v : ℕ} → Counted (from list at n) left₀ → o ≡ get_or list (at + k) 0 → c ≡ get_or left o 0 → v ≡ c - 1
-        → CountingDown list at n left₀ (set left o v) (k + 1)
-    down_turn {o} {c} {v} d e f g =
-        let j : at + (k + 1) ≡ at + k + 1 = omega arith in
-        let l = from list (at + k + 1) (n - (k + 1)) in
-        let some = down_some d e f in
-        let here : o < length left = inside left o (omega (arith, f, some)) in
+    pub down_turn : {v : ℕ} → v ≡ c - 1 → CountingDown os left₀ (set left o v) (i + 1)
+    down_turn {v} g =
+        let l = drop (i + 1) os in
+        let here : o < length left = inside left o (omega (arith, f, down_some)) in
         record {
-          inside = omega arith;
           wide = length-set left o v ∙ w.wide;
           same = λ s.
-              let a = down_one left o c v here f (omega (arith, g, some)) s l in
-              let b : get_or left s 0 + times s (from list at n) ≡ get_or left₀ s 0 + times s (o ∷ l) = rw (e, ← next) (w.same s) in
-              rw j (omega (arith, a, b));
+              let a = down_one left o c v here f (omega (arith, g, down_some)) s l in
+              let b : get_or left s 0 + times s os ≡ get_or left₀ s 0 + times s (o ∷ l) = rw (← next) (w.same s) in
+              omega (arith, a, b);
         }
 
-pub down_end : {list : List ℕ} {at n : ℕ} {left₀ left : List ℕ} {k : ℕ} → CountingDown list at n left₀ left k → n ≤ k → CountedDown (from list at n) left₀ left
-unfolding from times
-down_end {list} {at} {n} {left₀} {left} {k} w h =
-    let i : n - k ≡ 0 = omega arith in
-    record { wide = w.wide; is = λ s. let z : get_or left₀ s 0 + 0 ≡ get_or left₀ s 0 = omega arith in (rw i at (w.same s)) ∙ z }
+  pub down_end : length os ≤ i → CountedDown os left₀ left
+  unfolding times
+  down_end h = record { wide = w.wide; is = λ s. let z : get_or left₀ s 0 + 0 ≡ get_or left₀ s 0 = omega arith in (rw (drop_of_length-le os h) at (w.same s)) ∙ z }

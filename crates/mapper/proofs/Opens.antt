@@ -5,15 +5,18 @@ use native.Mathlib.Omega.{arith}
 use native.Mathlib.Decide.{dec_lt}
 use mathlib.Core.Path.{◌≡◌, refl, sym, ap, ◌∙◌}
 use mathlib.Core.List.{List, [], ◌∷◌, ◌++◌, map}
-use lib.ListN.{get_or, length, take, replicate, length-replicate, length-map, get_or-append, get_or-map, get_or-eq_default}
+use lib.ListN.{get_or, length, take, replicate, length-replicate, length-map, get_or-append, get_or-map}
 use lib.Seq.{get_or-append-add, take-append-add}
-use Rattle.rules.specs.Basics.{pick, upto}
+use Rattle.std.proofs.lemmas.List.{take-replicate}
+use Rattle.rules.specs.Basics.{upto}
 use Rattle.rules.specs.Cells.{Slot, blank, ready, spent, keeps, opening}
 use Rattle.rules.proofs.Laws.{no_way}
 use Rattle.rules.proofs.Lists.{length-upto}
 use Rattle.netlist.specs.declared.Netlist.{Netlist}
 use Rattle.netlist.specs.Flat.{netlist_in}
-use Rattle.mapper.specs.Held.{code_of, cells_of, spent_in, renewed, first_held, first_cells}
+use Rattle.mapper.specs.declared.cells.Hold.{Hold}
+use Rattle.mapper.specs.declared.cells.Hold.TheVariants.{Ready, Spent, Keeps}
+use Rattle.mapper.specs.Held.{hold_of, cells_of, spent_in, renewed, first_held, first_cells}
 use Rattle.mapper.specs.Run.{opened}
 use Rattle.mapper.proofs.Slots.{renew_slot}
 use Rattle.mapper.proofs.Keeping.{Kept, ready_not}
@@ -82,54 +85,42 @@ module _ (inputs k : ℕ) where
           let z : c ≡ length (map keeps (upto 0 inputs)) + (c - inputs) = omega (arith, input_slots, h) in
           absurd (none_ready k (c - inputs) s (sym (get_or-append-add (map keeps (upto 0 inputs)) (replicate k ready ++ []) (c - inputs) blank) ∙ (rw z at e)))
 
-  pub kept_open : (cell : List ℕ) → ((s : ℕ) → get_or cell s 0 ≡ get_or (upto 0 inputs) s 0) → Kept cell (open_slots inputs k)
-  kept_open cell h = record { found = found; lost = lost }
-    where
-      found : (c s : ℕ) → get_or (open_slots inputs k) c blank ≡ keeps s → get_or cell s 0 ≡ c
-      found c s e = let r = open_keeps c s e in h s ∙ rw (← r.1) (upto_at 0 inputs c r.0 ∙ omega arith)
-
-      lost : (s : ℕ) → ((c : ℕ) → get_or (open_slots inputs k) c blank ≡ keeps s → ⊥) → get_or cell s 0 ≡ 0
-      lost s n = go (dec_lt s inputs)
-        where
-          go : Dec (s < inputs) → get_or cell s 0 ≡ 0
-          go (yes l) = absurd (n s (open_input s l))
-          go (no l) = h s ∙ get_or-eq_default (upto 0 inputs) 0 (omega (arith, length-upto 0 inputs, l))
+  pub kept_open : (table : List ℕ) → ((s : ℕ) → s < inputs → get_or table s 0 ≡ s) → ((s : ℕ) → inputs ≤ s → get_or table s 0 ≡ 0) → Kept table (open_slots inputs k)
+  kept_open table low high = record {
+    found = λ c s e. let r = open_keeps c s e in rw (← r.1) (low c r.0);
+    lost = λ s n. elim (dec_lt s inputs) [ yes l ↦ absurd (n s (open_input s l)) | no l ↦ high s (omega (arith, l)) ];
+  }
 
 -- ---- the state before the first line, and its set line
 
-spent_ones : (k m : ℕ) → spent_in k (replicate m 1) ≡ upto k m
-unfolding spent_in upto pick
+spent_ones : (k m : ℕ) → spent_in k (replicate m Spent) ≡ upto k m
+unfolding spent_in upto
 spent_ones k zero = refl
 spent_ones k (suc m) = ap (λ t. k ∷ t) (spent_ones (suc k) m)
 
-spent_after : (k i : ℕ) (l : List ℕ) → spent_in k (replicate i 2 ++ l) ≡ spent_in (k + i) l
-unfolding spent_in pick
+spent_after : (k i : ℕ) (l : List Hold) → spent_in k (replicate i Keeps ++ l) ≡ spent_in (k + i) l
+unfolding spent_in
 spent_after k zero l = let e : k + 0 ≡ k = omega arith in rw e
 spent_after k (suc i) l = let e : k + suc i ≡ suc k + i = omega arith in rw e (spent_after (suc k) i l)
 
-take-replicate : (n m v : ℕ) → n ≤ m → take n (replicate m v) ≡ replicate n v
-take-replicate zero m v h = refl
-take-replicate (suc n) zero v h = absurd (omega arith)
-take-replicate (suc n) (suc m) v h = ap (λ t. v ∷ t) (take-replicate n m v (omega arith))
-
-first_row : (inputs row : ℕ) → inputs ≤ row → row ≤ 256 → take row (first_held inputs) ≡ replicate inputs 2 ++ replicate (row - inputs) 1
+first_row : (inputs row : ℕ) → inputs ≤ row → row ≤ 256 → take row (first_held inputs) ≡ replicate inputs Keeps ++ replicate (row - inputs) Spent
 unfolding first_held
 first_row inputs row h l =
-    let e : row ≡ length {A = ℕ} (replicate inputs 2) + (row - inputs) = omega (arith, length-replicate {A = ℕ} inputs 2) in
-    ap (λ k. take k (replicate inputs 2 ++ replicate (256 - inputs) 1)) e
-    ∙ take-append-add (replicate inputs 2) (replicate (256 - inputs) 1) (row - inputs)
-    ∙ ap (λ t. replicate inputs 2 ++ t) (take-replicate (row - inputs) (256 - inputs) 1 (omega arith))
+    let e : row ≡ length (replicate inputs Keeps) + (row - inputs) = omega (arith, length-replicate inputs Keeps) in
+    ap (λ k. take k (replicate inputs Keeps ++ replicate (256 - inputs) Spent)) e
+    ∙ take-append-add (replicate inputs Keeps) (replicate (256 - inputs) Spent) (row - inputs)
+    ∙ ap (λ t. replicate inputs Keeps ++ t) (take-replicate (row - inputs) (256 - inputs) Spent (omega arith))
 
 pub first_spent : (inputs row : ℕ) → inputs ≤ row → row ≤ 256 → spent_in 0 (cells_of (first_cells inputs row)) ≡ upto inputs (row - inputs)
 first_spent inputs row h l =
     let e : 0 + inputs ≡ inputs = omega arith in
-    ap (spent_in 0) (first_row inputs row h l) ∙ spent_after 0 inputs (replicate (row - inputs) 1) ∙ rw e (spent_ones inputs (row - inputs))
+    ap (spent_in 0) (first_row inputs row h l) ∙ spent_after 0 inputs (replicate (row - inputs) Spent) ∙ rw e (spent_ones inputs (row - inputs))
 
-map-kept : (i : ℕ) (a : ℕ) (k : ℕ) → map renewed (replicate i 2 ++ replicate k 1) ≡ map code_of (map keeps (upto a i) ++ (replicate k ready ++ []))
-unfolding renewed code_of upto pick
+map-kept : (i : ℕ) (a : ℕ) (k : ℕ) → map renewed (replicate i Keeps ++ replicate k Spent) ≡ map hold_of (map keeps (upto a i) ++ (replicate k ready ++ []))
+unfolding renewed hold_of upto
 map-kept zero a zero = refl
-map-kept zero a (suc k) = ap (λ t. 0 ∷ t) (map-kept zero a k)
-map-kept (suc i) a k = ap (λ t. 2 ∷ t) (map-kept i (suc a) k)
+map-kept zero a (suc k) = ap (λ t. Ready ∷ t) (map-kept zero a k)
+map-kept (suc i) a k = ap (λ t. Keeps ∷ t) (map-kept i (suc a) k)
 
-pub first_renewed : (inputs row : ℕ) → inputs ≤ row → row ≤ 256 → map renewed (cells_of (first_cells inputs row)) ≡ map code_of (open_slots inputs (row - inputs))
+pub first_renewed : (inputs row : ℕ) → inputs ≤ row → row ≤ 256 → map renewed (cells_of (first_cells inputs row)) ≡ map hold_of (open_slots inputs (row - inputs))
 first_renewed inputs row h l = ap (map renewed) (first_row inputs row h l) ∙ map-kept inputs 0 (row - inputs)

@@ -6,14 +6,15 @@ use native.Mathlib.Numerals.{add-one}
 use mathlib.Core.Path.{◌≡◌, refl, sym, ap, ◌∙◌}
 use mathlib.Core.Bool.{false}
 use mathlib.Core.List.{List, [], ◌∷◌, ◌++◌, map, append-nil}
+use Rattle.std.proofs.Common.{Some, None}
 use lib.Dec.{ltb}
 use borrow.Author.Tests.{lt-ltb}
 use lib.ListN.{get_or, length, take, drop, replicate, drop_of_length-le}
-use lib.Seq.{drop-cons, take-suc, get_or-take, length-take-le}
+use lib.Seq.{drop-cons, take-suc}
 use Rattle.rules.specs.Basics.{mem, upto}
 use Rattle.rules.specs.Form.{form01}
 use Rattle.rules.specs.Lines.{written}
-use Rattle.rules.specs.Refusals.{good, refuse, ◌>>=◌}
+use Rattle.rules.specs.Refusals.{good, refused, ◌>>=◌}
 use Rattle.rules.specs.Sequence.{Instruction, Set, instruction_text, texts}
 use Rattle.rules.specs.Cells.{ready, keeps, is_spent, those, State, place, execute_gate, execute_gates, all_spent, opening}
 use Rattle.rules.specs.Netlist as rules
@@ -22,28 +23,26 @@ use Rattle.rules.proofs.Lists.{length-upto}
 use Rattle.netlist.specs.declared.Netlist.{Netlist}
 use Rattle.netlist.specs.Flat.{netlist_in}
 use Rattle.mapper.specs.declared.cells.Cells.{Cells}
-use Rattle.mapper.specs.Text.{Written}
-use Rattle.mapper.specs.Held.{first_cells, Renewed, Roomed, Fine, Short}
-use Rattle.mapper.specs.Run.{code_text, opened, ran, Executable, Executed, Mapped, Runnable}
-use Rattle.mapper.proofs.Writing.{set_text, written_join}
+use Rattle.mapper.specs.declared.signals.Signals.{Signals}
+use Rattle.mapper.specs.Held.{first_cells, Renewed, Roomed}
+use Rattle.mapper.specs.Run.{code_text, opened, ran, Placeable, Placed, Mapped, Runnable}
+use Rattle.mapper.proofs.Writing.{set_text}
 use Rattle.mapper.proofs.Keeping.{kept_cell}
 use Rattle.mapper.proofs.Opens.{opened_slots, open_keeps, kept_open, first_spent, first_renewed}
 use Rattle.mapper.proofs.Bounds.{Bounded, written_length}
-use Rattle.mapper.proofs.Mirror.{Since, since_at, Mirrors, mirror_fine}
+use Rattle.mapper.proofs.Mirror.{Mirrors}
 use Rattle.mapper.proofs.Rooms.{Roomy, room_found, room_none}
-use Rattle.mapper.proofs.Gatewise.{gate_executable, gate_mirrors, gate_since, gate_bounded}
+use Rattle.mapper.proofs.Gatewise.{gate_placeable, gate_mirrors, gate_text, gate_bounded, gate_wide}
 
-pub record Running (n : Netlist) (row : ℕ) (gs left₀ cell₀ out₀ : List ℕ) (at₀ : ℕ) (left cell out : List ℕ) (st : Cells) (i : ℕ) : Type 0 where
+pub record Running (n : Netlist) (row : ℕ) (gs : List ℕ) (st : Cells) (g : Signals) (text : List ℕ) (i : ℕ) : Type 0 where
   pub S : State
   pub inside : i ≤ length gs
-  pub mirrors : Mirrors n row S st cell left
+  pub mirrors : Mirrors n row S st g.table g.left
   pub bounded : Bounded S i
   pub done : S.done ≡ take i gs
-  pub since : Since (opened n row).code out₀ at₀ S.code out st.at
+  pub text_is : text ≡ code_text S.code
   pub work : execute_gates (netlist_in n) all_spent (drop i gs) S ≡ ran n row gs
-  pub wide : length cell ≡ length cell₀
-  pub wide' : length left ≡ length left₀
-  pub wide'' : length out ≡ length out₀
+  pub wide : length g.table ≡ 576
 
 placed_done : (N : rules.Netlist) (g c : ℕ) (S : State) → (place N g c S).done ≡ S.done ++ (g ∷ [])
 unfolding place
@@ -80,16 +79,11 @@ ran_whole : (n : Netlist) (row : ℕ) (gs : List ℕ) → execute_gates (netlist
 unfolding ran
 ran_whole n row gs = refl
 
--- the opening's set line is the first
-pub opening_line : (n : Netlist) (row : ℕ) → n.inputs ≤ row → row ≤ 256 → {out out' : List ℕ} {st : Cells} → Renewed (first_cells n.inputs row) out out' st
-    → Written out 0 (code_text (opened n row).code) out' st.at
-opening_line n row h l d = rw (open_text n row, ← first_spent n.inputs row h l) d.text
-
-module _ {n : Netlist} {row m : ℕ} {seq left cell : List ℕ} (p : Runnable n row m seq left cell) where
-  pub run_start : {out out' : List ℕ} {st : Cells} → Renewed (first_cells n.inputs row) out out' st → Running n row (take m seq) left cell out' st.at left cell out' st 0
-  run_start {out} {out'} {st} d =
+module _ {n : Netlist} {row : ℕ} {gs : List ℕ} {st₀ : Cells} {g₀ : Signals} {text₀ : List ℕ} (p : Runnable n row gs st₀ g₀ text₀) where
+  pub run_start : {text : List ℕ} {u : Cells} → Renewed st₀ text₀ text u → Running n row gs u g₀ text 0
+  run_start {text} {u} d₀ =
       let h : n.inputs ≤ row = omega (arith, p.room) in
-      let t = opening_line n row h p.size d in
+      let d : Renewed (first_cells n.inputs row) [] text u = rw (p.first, p.empty) at d₀ in
       record {
         S = opened n row;
         inside = omega arith;
@@ -100,7 +94,7 @@ module _ {n : Netlist} {row m : ℕ} {seq left cell : List ℕ} (p : Runnable n 
           inside = omega (arith, d.next);
           low = λ i k. absurd (omega (arith, d.next));
           cells = rw (opened_slots n row) (d.cells ∙ first_renewed n.inputs row h p.size);
-          kept = rw (opened_slots n row) (kept_open n.inputs (row - n.inputs) cell p.seated);
+          kept = rw (opened_slots n row) (kept_open n.inputs (row - n.inputs) g₀.table p.seated.inputs_in p.seated.others);
           within = λ c s e.
               let r = open_keeps n.inputs (row - n.inputs) c s (rw (opened_slots n row) at e) in
               or_left (ltb s n.inputs) (mem s (opened n row).done) (lt-ltb s n.inputs (omega (arith, r.0, r.1)));
@@ -112,93 +106,68 @@ module _ {n : Netlist} {row m : ℕ} {seq left cell : List ℕ} (p : Runnable n 
           few = rw (open_code n row) (omega arith);
         };
         done = open_done n row;
-        since = record { from = t.end ∙ omega arith; more = []; split = sym (append-nil (code_text (opened n row).code)); text = record { is = refl; end = omega arith } };
-        work = ran_whole n row (take m seq);
-        wide = refl;
-        wide' = refl;
-        wide'' = refl;
+        text_is = d.line ∙ rw (open_text n row, first_spent n.inputs row h p.size);
+        work = ran_whole n row gs;
+        wide = p.seated.wide;
       }
 
-  module _ {out₀ : List ℕ} {at₀ : ℕ} {left' cell' out : List ℕ} {st : Cells} {i : ℕ} (w : Running n row (take m seq) left cell out₀ at₀ left' cell' out st i) where
+  module _ {st : Cells} {g : Signals} {text : List ℕ} {i : ℕ} (w : Running n row gs st g text i) where
     -- ---- one gate more, in the cell that is found
 
     most : i ≤ 576
-    most = omega (arith, w.inside, p.most, length-take-le m seq p.fits)
+    most = omega (arith, w.inside, p.most)
 
-    pub run_short : Short st
-    run_short = record {
-      size = omega (arith, w.mirrors.rows, p.size);
-      short = omega (arith, since_at w.since, w.bounded.short, most);
-      few = omega (arith, w.mirrors.lines, w.bounded.few, most);
-    }
-
-    pub run_fine : Fine st
-    run_fine = mirror_fine w.mirrors
-
-    module _ (h : i < m) {s : ℕ} (e : s ≡ get_or seq i 0) {r : Cells} {out' : List ℕ} (d : Roomed st out out' r) where
-      at_gate : get_or (take m seq) i 0 ≡ s
-      at_gate = get_or-take m seq i 0 h ∙ sym e
-
-      here : i < length (take m seq)
-      here = omega (arith, length-take-le m seq p.fits)
-
+    module _ (here : i < length gs) {s : ℕ} (at_gate : s ≡ get_or gs i 0) where
       gate : n.inputs ≤ s
-      gate = rw (← at_gate) (p.steps.low i here)
+      gate = rw at_gate (p.steps.low i here)
 
       known : s < n.inputs + n.gates
-      known = rw (← at_gate) (p.steps.high i here)
+      known = rw at_gate (p.steps.high i here)
 
       fresh : mem s w.S.done ≡ false
-      fresh = rw (w.done, ← at_gate) (p.steps.once i here)
+      fresh = rw (w.done, at_gate) (p.steps.once i here)
 
-      next_gate : drop i (take m seq) ≡ s ∷ drop (i + 1) (take m seq)
-      next_gate = drop-cons (take m seq) i 0 here ∙ rw (at_gate, add-one i)
+      next_gate : drop i gs ≡ s ∷ drop (i + 1) gs
+      next_gate = rw (at_gate, add-one i) (drop-cons gs i 0 here)
 
       -- the rule's next step
-      goes_on : (S : State) → execute_gate (netlist_in n) all_spent s w.S ≡ good S → execute_gates (netlist_in n) all_spent (drop (i + 1) (take m seq)) S ≡ ran n row (take m seq)
+      goes_on : (S : State) → execute_gate (netlist_in n) all_spent s w.S ≡ good S → execute_gates (netlist_in n) all_spent (drop (i + 1) gs) S ≡ ran n row gs
       unfolding execute_gates ◌>>=◌
-      goes_on S f = ap (λ x. x >>= execute_gates (netlist_in n) all_spent (drop (i + 1) (take m seq))) (sym f) ∙ (rw next_gate at w.work)
+      goes_on S f = ap (λ x. x >>= execute_gates (netlist_in n) all_spent (drop (i + 1) gs)) (sym f) ∙ (rw next_gate at w.work)
 
-      pub run_none : row ≤ r.next → ran n row (take m seq) ≡ refuse 9
+      pub run_none : {text' : List ℕ} → Roomed st text text' None → ran n row gs ≡ refused 9
       unfolding execute_gates ◌>>=◌
-      run_none k =
-          sym (rw next_gate at w.work) ∙ ap (λ x. x >>= execute_gates (netlist_in n) all_spent (drop (i + 1) (take m seq))) (room_none w.mirrors d k s)
+      run_none d = sym (rw next_gate at w.work) ∙ ap (λ x. x >>= execute_gates (netlist_in n) all_spent (drop (i + 1) gs)) (room_none w.mirrors d s)
 
-      module _ (k : r.next < row) where
-        roomy : Roomy n row i w.S (opened n row).code out₀ at₀ r cell' left' out'
-        roomy = room_found w.mirrors w.bounded w.since d k
+      module _ {r : Cells} {text' : List ℕ} (d : Roomed st text text' (Some r)) where
+        roomy : Roomy n row i w.S r g.table g.left text'
+        roomy = room_found w.mirrors w.bounded w.text_is d
 
-        pub run_executable : Executable n.inputs n.ops n.counts s r left'
-        run_executable = gate_executable n p.well roomy s gate known fresh k most
+        pub run_placeable : Placeable n s r g text'
+        run_placeable = gate_placeable n p.well roomy s gate known fresh most
 
-        pub run_turn : {left'' cell'' out'' : List ℕ} {q : Cells} → Executed n.inputs n.ops n.counts s r left' cell' out' left'' cell'' out'' q
-            → length left'' ≡ length left' → length cell'' ≡ length cell' → length out' ≡ length out → length out'' ≡ length out'
-            → Running n row (take m seq) left cell out₀ at₀ left'' cell'' out'' q (i + 1)
-        run_turn {left''} {cell''} {out''} {q} x a b c f = record {
+        pub run_turn : {st' : Cells} {g' : Signals} {text'' : List ℕ} → Placed n s r g text' st' g' text'' → Running n row gs st' g' text'' (i + 1)
+        run_turn x = record {
           S = place (netlist_in n) s r.next roomy.S';
           inside = omega (arith, here);
-          mirrors = gate_mirrors n p.well roomy s gate known fresh k x (omega (arith, known, w.wide, p.wide));
-          bounded = gate_bounded n p.well roomy s gate known fresh k x;
-          done = placed_done (netlist_in n) s r.next roomy.S' ∙ rw (roomy.done, w.done, add-one i) (sym (take-suc (take m seq) i 0 here ∙ rw at_gate));
-          since = gate_since n p.well roomy s gate known fresh k x;
+          mirrors = gate_mirrors n p.well roomy s gate known fresh x (omega (arith, known, w.wide, p.well.inputs_most, p.well.gates_most));
+          bounded = gate_bounded n p.well roomy s gate known fresh x;
+          done = placed_done (netlist_in n) s r.next roomy.S' ∙ rw (roomy.done, w.done, add-one i) (sym (take-suc gs i 0 here ∙ rw at_gate));
+          text_is = gate_text n p.well roomy s gate known fresh x;
           work = goes_on (place (netlist_in n) s r.next roomy.S') (roomy.step s);
-          wide = b ∙ w.wide;
-          wide' = a ∙ w.wide';
-          wide'' = f ∙ c ∙ w.wide'';
+          wide = gate_wide n p.well roomy s gate known fresh x ∙ w.wide;
         }
 
     -- ---- the end
 
-    pub run_end : {first : List ℕ} → m ≤ i → Written first 0 (code_text (opened n row).code) out₀ at₀ → Mapped n row (take m seq) cell' first out st.at st.lines
+    pub run_end : length gs ≤ i → Mapped n row gs st g text
     unfolding execute_gates
-    run_end {first} h d =
-        let l : length (take m seq) ≤ i = omega (arith, length-take-le m seq p.fits) in
-        record {
-          end = w.S;
-          is = sym (rw (drop_of_length-le (take m seq) l) at w.work);
-          text = rw w.since.split (written_join d w.since.text);
-          count = w.mirrors.lines;
-          table = kept_cell w.mirrors.kept;
-          short = omega (arith, since_at w.since, w.bounded.short, most);
-          few = omega (arith, w.mirrors.lines, w.bounded.few, most);
-        }
+    run_end h = record {
+      end = w.S;
+      is = sym (rw (drop_of_length-le gs h) at w.work);
+      text_is = w.text_is;
+      count = w.mirrors.lines;
+      table = kept_cell w.mirrors.kept;
+      short = omega (arith, ap length w.text_is, w.bounded.short, most);
+      few = omega (arith, w.mirrors.lines, w.bounded.few, most);
+    }

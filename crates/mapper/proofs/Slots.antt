@@ -1,36 +1,40 @@
--- The rule's slots beside the code's numbers: the lowest ready cell, the spent ones, and what is set in them.
+-- The rule's slots beside what the code knows of the cells: the lowest ready cell, the spent ones, and what is set in them.
 -- Assumes nothing.
 use Prim.Native.Nat.{ℕ, zero, suc, ◌+◌, ◌<◌}
 use native.Mathlib.Omega.{arith}
 use native.Mathlib.Numerals.{add-one}
 use mathlib.Core.Path.{◌≡◌, refl, sym, ap, ◌∙◌}
-use mathlib.Core.Bool.{true}
+use mathlib.Core.Bool.{true, false}
 use mathlib.Core.List.{List, [], ◌∷◌, ◌++◌, map, append_assoc}
 use mathlib.Core.Option.{none, some}
-use lib.Dec.{eqb}
-use borrow.Author.Tests.{eq-eqb, ne_eqb}
 use lib.ListN.{get_or, length, take, set, length-append}
 use lib.Seq.{set-append_seam}
+use Rattle.std.proofs.lemmas.List.{map-set}
 use Rattle.rules.specs.Basics.{pick, set_all}
 use Rattle.rules.specs.Cells.{Slot, blank, ready, spent, keeps, is_ready, is_spent, those, lowest, all_spent}
-use Rattle.mapper.specs.Held.{code_of, spent_in, renewed}
-use Rattle.mapper.proofs.Cellwise.{take-set}
+use Rattle.mapper.specs.declared.cells.Hold.{Hold}
+use Rattle.mapper.specs.declared.cells.Hold.TheVariants.{Ready, Spent, Keeps}
+use Rattle.mapper.specs.Held.{hold_of, spent_in, renewed}
 
 -- ---- one slot
 
-code_ready : (s : Slot) → eqb (code_of s) 0 ≡ is_ready s
-unfolding code_of is_ready
-code_ready blank = refl
-code_ready ready = refl
-code_ready spent = refl
-code_ready (keeps s) = refl
+pub ready_hold : (s : Slot) → hold_of s ≡ Ready → s ≡ ready
+unfolding hold_of
+ready_hold blank e = cc
+ready_hold ready e = refl
+ready_hold spent e = cc
+ready_hold (keeps s) e = cc
 
-code_spent : (s : Slot) → eqb (code_of s) 1 ≡ is_spent s
-unfolding code_of is_spent
-code_spent blank = refl
-code_spent ready = refl
-code_spent spent = refl
-code_spent (keeps s) = refl
+is_ready_hold : (s : Slot) → hold_of s ≡ Ready → is_ready s ≡ true
+unfolding is_ready
+is_ready_hold s e = rw (ready_hold s e)
+
+not_ready_hold : (s : Slot) → (hold_of s ≡ Ready → ⊥) → is_ready s ≡ false
+unfolding hold_of is_ready
+not_ready_hold blank h = refl
+not_ready_hold ready h = absurd (h refl)
+not_ready_hold spent h = refl
+not_ready_hold (keeps s) h = refl
 
 -- a spent slot becomes ready
 abbrev pub renew_slot : Slot → Slot
@@ -39,19 +43,22 @@ renew_slot ready = ready
 renew_slot spent = ready
 renew_slot (keeps s) = keeps s
 
-code_renewed : (s : Slot) → renewed (code_of s) ≡ code_of (renew_slot s)
-unfolding code_of renewed pick
-code_renewed blank = refl
-code_renewed ready = refl
-code_renewed spent = refl
-code_renewed (keeps s) = refl
+hold_renewed : (s : Slot) → renewed (hold_of s) ≡ hold_of (renew_slot s)
+unfolding hold_of renewed
+hold_renewed blank = refl
+hold_renewed ready = refl
+hold_renewed spent = refl
+hold_renewed (keeps s) = refl
 
 -- ---- the spent cells
 
-pub spent_same : (k : ℕ) (l : List Slot) → spent_in k (map code_of l) ≡ those is_spent k l
-unfolding spent_in those
+pub spent_same : (k : ℕ) (l : List Slot) → spent_in k (map hold_of l) ≡ those is_spent k l
+unfolding hold_of spent_in those is_spent pick
 spent_same k [] = refl
-spent_same k (s ∷ l) = rw (code_spent s, spent_same (suc k) l)
+spent_same k (blank ∷ l) = spent_same (suc k) l
+spent_same k (ready ∷ l) = spent_same (suc k) l
+spent_same k (spent ∷ l) = ap (λ t. k ∷ t) (spent_same (suc k) l)
+spent_same k (keeps s ∷ l) = spent_same (suc k) l
 
 -- all spent cells set: each slot renewed
 renew_all : (p l : List Slot) → set_all ready (those is_spent (length p) l) (p ++ l) ≡ p ++ map renew_slot l
@@ -77,51 +84,48 @@ pub renewed_slots : (l : List Slot) → set_all ready (all_spent l) l ≡ map re
 unfolding all_spent
 renewed_slots l = renew_all [] l
 
-pub renewed_codes : (l : List Slot) → map renewed (map code_of l) ≡ map code_of (map renew_slot l)
-renewed_codes [] = refl
-renewed_codes (s ∷ l) = rw (code_renewed s, renewed_codes l)
+pub renewed_holds : (l : List Slot) → map renewed (map hold_of l) ≡ map hold_of (map renew_slot l)
+renewed_holds [] = refl
+renewed_holds (s ∷ l) = rw (hold_renewed s, renewed_holds l)
 
--- ---- the lowest ready cell, by the numbers of cells counted from k
+-- ---- the lowest ready cell, of cells counted from k
 
-pub lowest_found : (k : ℕ) (l : List Slot) (i : ℕ) → i < length l → get_or (map code_of l) i 0 ≡ 0 → ((j : ℕ) → j < i → get_or (map code_of l) j 0 ≡ 0 → ⊥)
+pub lowest_found : (k : ℕ) (l : List Slot) (i : ℕ) → i < length l → get_or (map hold_of l) i Keeps ≡ Ready → ((j : ℕ) → j < i → get_or (map hold_of l) j Keeps ≡ Ready → ⊥)
     → lowest is_ready k l ≡ some (k + i)
-unfolding lowest
+unfolding lowest pick
 lowest_found k [] i h e n = absurd (omega arith)
-lowest_found k (s ∷ l) zero h e n = let z : k + 0 ≡ k = omega arith in rw (← code_ready s, eq-eqb (code_of s) 0 e, z) (first k l)
-  where
-    first : (k : ℕ) (l : List Slot) → pick true (some k) (lowest is_ready (suc k) l) ≡ some k
-    first k l = refl
+lowest_found k (s ∷ l) zero h e n = let z : k + 0 ≡ k = omega arith in rw (is_ready_hold s e, z)
 lowest_found k (s ∷ l) (suc i) h e n =
     let z : k + suc i ≡ suc k + i = omega arith in
-    rw (← code_ready s, ne_eqb (code_of s) 0 (n 0 (omega arith)), z) (lowest_found (suc k) l i (omega arith) e (λ j m. n (suc j) (omega arith)))
+    rw (not_ready_hold s (n 0 (omega arith)), z) (lowest_found (suc k) l i (omega arith) e (λ j m. n (suc j) (omega arith)))
 
-pub lowest_none : (k : ℕ) (l : List Slot) → ((j : ℕ) → j < length l → get_or (map code_of l) j 0 ≡ 0 → ⊥) → lowest is_ready k l ≡ none
+pub lowest_none : (k : ℕ) (l : List Slot) → ((j : ℕ) → j < length l → get_or (map hold_of l) j Keeps ≡ Ready → ⊥) → lowest is_ready k l ≡ none
 unfolding lowest pick
 lowest_none k [] n = refl
-lowest_none k (s ∷ l) n =
-    rw (← code_ready s, ne_eqb (code_of s) 0 (n 0 (omega arith))) (lowest_none (suc k) l (λ j m. n (suc j) (omega arith)))
+lowest_none k (s ∷ l) n = rw (not_ready_hold s (n 0 (omega arith))) (lowest_none (suc k) l (λ j m. n (suc j) (omega arith)))
 
 -- ---- cells set
 
-map-set : (l : List Slot) (i : ℕ) (v : Slot) → map code_of (set l i v) ≡ set (map code_of l) i (code_of v)
-map-set [] i v = refl
-map-set (s ∷ l) zero v = refl
-map-set (s ∷ l) (suc i) v = ap (λ t. code_of s ∷ t) (map-set l i v)
-
-map-set_all : (v : Slot) (cs : List ℕ) (l : List Slot) → map code_of (set_all v cs l) ≡ set_all (code_of v) cs (map code_of l)
+map-set_all : (v : Slot) (cs : List ℕ) (l : List Slot) → map hold_of (set_all v cs l) ≡ set_all (hold_of v) cs (map hold_of l)
 unfolding set_all
 map-set_all v [] l = refl
-map-set_all v (c ∷ cs) l = map-set_all v cs (set l c v) ∙ ap (set_all (code_of v) cs) (map-set l c v)
+map-set_all v (c ∷ cs) l = map-set_all v cs (set l c v) ∙ ap (set_all (hold_of v) cs) (map-set hold_of l c v)
 
-take-set_all : (n v : ℕ) (cs l : List ℕ) → take n (set_all v cs l) ≡ set_all v cs (take n l)
+take-set_any : {A : Type 0} (n : ℕ) (l : List A) (i : ℕ) (a : A) → take n (set l i a) ≡ set (take n l) i a
+take-set_any zero l i a = refl
+take-set_any (suc n) [] i a = refl
+take-set_any (suc n) (x ∷ l) zero a = refl
+take-set_any (suc n) (x ∷ l) (suc i) a = ap (λ t. x ∷ t) (take-set_any n l i a)
+
+take-set_all : {A : Type 0} (n : ℕ) (v : A) (cs : List ℕ) (l : List A) → take n (set_all v cs l) ≡ set_all v cs (take n l)
 unfolding set_all
 take-set_all n v [] l = refl
-take-set_all n v (c ∷ cs) l = take-set_all n v cs (set l c v) ∙ ap (set_all v cs) (take-set n l c v)
+take-set_all n v (c ∷ cs) l = take-set_all n v cs (set l c v) ∙ ap (set_all v cs) (take-set_any n l c v)
 
 -- a signal in cell c, and cells spent
-pub placed_codes : (n : ℕ) (held cs : List ℕ) (c g : ℕ) (l : List Slot) → take n held ≡ map code_of l
-    → take n (set_all 1 cs (set held c 2)) ≡ map code_of (set_all spent cs (set l c (keeps g)))
-unfolding code_of
-placed_codes n held cs c g l e =
-    take-set_all n 1 cs (set held c 2) ∙ ap (set_all 1 cs) (take-set n held c 2 ∙ ap (λ t. set t c 2) e)
-    ∙ sym (map-set_all spent cs (set l c (keeps g)) ∙ ap (set_all 1 cs) (map-set l c (keeps g)))
+pub placed_holds : (n : ℕ) (held : List Hold) (cs : List ℕ) (c g : ℕ) (l : List Slot) → take n held ≡ map hold_of l
+    → take n (set_all Spent cs (set held c Keeps)) ≡ map hold_of (set_all spent cs (set l c (keeps g)))
+unfolding hold_of
+placed_holds n held cs c g l e =
+    take-set_all n Spent cs (set held c Keeps) ∙ ap (set_all Spent cs) (take-set_any n held c Keeps ∙ ap (λ t. set t c Keeps) e)
+    ∙ sym (map-set_all spent cs (set l c (keeps g)) ∙ ap (set_all Spent cs) (map-set hold_of l c (keeps g)))

@@ -1,13 +1,7 @@
--- Text written into a lent buffer, what is written so far and what is left.
+-- Pieces of the sequence's text.
 -- Assumes nothing.
-use Rattle.std.specs.Prelude.{ℕ, ◌+◌, ◌-◌, ◌/◌, ◌%◌, ◌≡◌, List, [], ◌∷◌, get_or, length}
-use Rattle.std.proofs.lemmas.List.Edits.{sets}
+use Rattle.std.specs.Prelude.{ℕ, ◌-◌, ◌/◌, ◌%◌, List, [], ◌∷◌, get_or}
 use Rattle.rules.specs.Lines.{digit_of, written}
-
--- a text stands from a place on, and the next place is right after it
-pub record Written (out : List ℕ) (at : ℕ) (t : List ℕ) (out' : List ℕ) (r : ℕ) : Type 0 where
-  pub is : out' ≡ sets out at t
-  pub end : r ≡ at + length t
 
 -- the two digits of a byte
 abbrev pub digits : ℕ → List ℕ

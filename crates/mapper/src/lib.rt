@@ -1,94 +1,71 @@
 // The mapper: a netlist's text to the text of a sequence for one row.
 #![tactic(auto)]
 
-ghost use Rattle.std.specs.Prelude.{◌≡◌, ◌<◌, ◌≤◌, length};
+ghost use Rattle.std.specs.Prelude.{◌≡◌, ◌<◌, ◌≤◌, [], Result};
 ghost use Rattle.rules.specs.Calls.{outcome_of, map_outcome, delivered};
 ghost use Rattle.netlist.specs.Well.{WellFlat};
-ghost use Rattle.order.specs.Sort.{zeros};
-ghost use Rattle.mapper.specs.Whole.{text_in, BodyOf};
+ghost use Rattle.mapper.specs.Whole.{Due, text_in, BodyOf};
 
-use mapping::{Outcome, run, seat};
+use cells::Cells;
 use netlist::Netlist;
-use rules::{Answer, Refusal};
-use text::{copy, put_head, put_places};
+use order::Plan;
+use rules::Refusal;
+use signals::Signals;
+use text::{Text, put_head};
 
 mod cells;
 mod mapping;
-mod readers;
+mod signals;
 mod text;
 
-fn no_cells() -> [u8; 576]
-    ensures { result ≡ zeros 576 }
+// The instructions and the places of a netlist's sequence; the answer is the number of instructions.
+fn put_body(n: &Netlist, plan: &Plan, row: usize, text: &mut Text) -> Result<usize, Refusal>
+    requires { Due n.now row plan.now × (text.old ≡ []) }
+    ensures { BodyOf n.now row text.new result }
 {
-    [0u8; 576]
+    let mut signals = Signals::first(n.inputs, &plan.left);
+    let cells = Cells::first(n.inputs, row).run(n, &plan.seq[..plan.count], &mut signals, text)?;
+    text.places(&signals.table, n.output_list());
+    Ok(cells.lines)
 }
 
-// Room for the lines behind the head of any sequence.
-fn no_text() -> [u8; 16384]
-    ensures { length result ≡ 16384 }
+// The sequence of a netlist whose order is known: 9, 10. Not inlined, so that the text takes no stack while the gates are visited.
+#[inline(never)]
+fn deliver(n: &Netlist, plan: &Plan, row: usize, out: &mut [u8]) -> Result<usize, Refusal>
+    requires { Due n.now row plan.now }
+    ensures { outcome_of result out.new ≡ delivered (text_in n.now row) out.old }
 {
-    [0u8; 16384]
-}
-
-// The instructions and the places of a netlist's sequence, written into a buffer.
-#[tactic(auto, using(crate::proofs::Bodies::body_no_row), unfolding(crate::specs::Whole::BodyOf))]
-fn put_body(n: Netlist, row: usize, buffer: &mut [u8]) -> Outcome
-    requires { WellFlat n × (row ≤ 256) }
-    ensures { BodyOf n row buffer.old buffer.new result }
-{
-    if row <= n.inputs {
-        return Outcome::NoRoom;
+    let mut text = Text::new();
+    let lines = put_body(n, plan, row, &mut text)?;
+    let body = text.as_slice();
+    let end = 13 + body.len();
+    if out.len() < end {
+        return Err(Refusal::ShortBuffer);
     }
-    let plan = order::of(n);
-    let seq = plan.seq;
-    let mut left = plan.left;
-    let mut cell = no_cells();
-    seat(&mut cell, n.inputs);
-    let r = run(n, row, &seq, plan.count, &mut left, &mut cell, buffer);
-    let Outcome::Fits { at, lines } = r else {
-        return Outcome::NoRoom;
-    };
-    let outs = n.outs;
-    let end = put_places(buffer, at, &cell, &outs, n.outputs);
-    Outcome::Fits {
-        at: end,
-        lines: lines,
-    }
+    put_head(out, row, n.inputs, n.outputs, lines);
+    out[13..end].copy_from_slice(body);
+    Ok(end)
 }
 
 // The sequence of a netlist that was read: 9, 10.
-fn map_netlist(n: Netlist, row: usize, out: &mut [u8]) -> Answer
-    requires { WellFlat n × ((0 < row) × (row ≤ 256)) }
-    ensures { outcome_of result out.new ≡ delivered (text_in n row) out.old }
+#[tactic(auto, using(crate::proofs::Delivering::no_work_cell))]
+fn map_netlist(n: &Netlist, row: usize, out: &mut [u8]) -> Result<usize, Refusal>
+    requires { WellFlat n.now × (row ≤ 256) }
+    ensures { outcome_of result out.new ≡ delivered (text_in n.now row) out.old }
 {
-    let mut buffer = no_text();
-    let r = put_body(n, row, &mut buffer);
-    let Outcome::Fits { at, lines } = r else {
-        return Answer::Refused(Refusal { number: 9 });
-    };
-    if out.len() < at + 13 {
-        return Answer::Refused(Refusal { number: 10 });
+    if row <= n.inputs {
+        return Err(Refusal::NoRoom);
     }
-    put_head(out, row, n.inputs, n.outputs, lines);
-    copy(&buffer, at, out, 13);
-    Answer::Given(at + 13)
+    deliver(n, &order::of(n), row, out)
 }
 
 // Mapping: 8, netlist, 9, 10.
-pub fn map(row: usize, text: &[u8], out: &mut [u8]) -> Answer
+pub fn map(row: usize, text: &[u8], out: &mut [u8]) -> Result<usize, Refusal>
     ensures { outcome_of result out.new ≡ map_outcome row text.now out.old }
 {
-    if row < 2 {
-        return Answer::Refused(Refusal { number: 8 });
+    if !(2..=256).contains(&row) {
+        return Err(Refusal::RowSize);
     }
-    if 256 < row {
-        return Answer::Refused(Refusal { number: 8 });
-    }
-    let read = netlist::read(text);
-    let refusal = read.refusal;
-    if refusal.number != 0 {
-        return Answer::Refused(refusal);
-    }
-    let n = read.netlist;
-    map_netlist(n, row, out)
+    let n = netlist::read(text)?;
+    map_netlist(&n, row, out)
 }

@@ -6,8 +6,8 @@ use native.Mathlib.Decide.{dec_lt}
 use mathlib.Core.Path.{◌≡◌, refl, sym, ap, ◌∙◌}
 use mathlib.Core.Bool.{true}
 use mathlib.Core.List.{List, [], ◌∷◌, ◌++◌}
-use lib.ListN.{get_or, length, set, length-set, length-append, get_or-append}
-use lib.Seq.{sets, get_or-append_seam, get_or-set_same, get_or-set_other}
+use lib.ListN.{get_or, length, take, drop, length-append, get_or-append}
+use lib.Seq.{drop-cons, get_or-append_seam}
 use Rattle.rules.specs.Basics.{mem}
 use Rattle.rules.proofs.Laws.{mem-nil, cons_cases, cons_more, cons_self}
 use Rattle.netlist.specs.Flat.{from, gate_in, gates_in}
@@ -25,31 +25,28 @@ get_or-from l at zero k d h = absurd (omega arith)
 get_or-from l at (suc n) zero d h = let e : at + 0 ≡ at = omega arith in rw e
 get_or-from l at (suc n) (suc k) d h = let e : at + 1 + k ≡ at + suc k = omega arith in get_or-from l (at + 1) n k d (omega arith) ∙ rw e
 
--- what is left of a walk over n numbers, at turn j
-module _ (l : List ℕ) (at n : ℕ) where
-  pub from_start : from l (at + 0) (n - 0) ≡ from l at n
-  from_start = let e : n - 0 ≡ n = omega arith in let f : at + 0 ≡ at = omega arith in rw (e, f)
-
-  pub from_turn : (j : ℕ) → j < n → from l (at + j) (n - j) ≡ get_or l (at + j) 0 ∷ from l (at + (j + 1)) (n - (j + 1))
-  unfolding from
-  from_turn j h =
-      let e : n - j ≡ suc (n - (j + 1)) = omega arith in
-      let f : at + (j + 1) ≡ at + j + 1 = omega arith in
-      rw (e, f)
-
-  pub from_end : (j : ℕ) → n ≤ j → from l (at + j) (n - j) ≡ []
-  unfolding from
-  from_end j h = let e : n - j ≡ 0 = omega arith in rw e
-
--- numbers written in a row stand there, and those before them stay
-pub sets_below : (ws l : List ℕ) (i k : ℕ) → k < i → get_or (sets l i ws) k 0 ≡ get_or l k 0
-sets_below [] l i k h = refl
-sets_below (w ∷ ws) l i k h = sets_below ws (set l i w) (suc i) k (omega arith) ∙ get_or-set_other l i k w 0 (λ e. omega arith)
-
-pub from_sets : (ws l : List ℕ) (i n : ℕ) → length ws ≡ n → i + n ≤ length l → from (sets l i ws) i n ≡ ws
+-- a part of a list is what stands from its place on
+part_is : (l : List ℕ) (k at : ℕ) → at + k ≤ length l → take k (drop at l) ≡ from l at k
 unfolding from
-from_sets [] l i n e h = rw (← e)
-from_sets (w ∷ ws) l i n e h = rw (← e, sets_below ws (set l i w) (suc i) i (omega arith), get_or-set_same l i w 0 (omega arith), add-one) (ap (λ t. w ∷ t) (from_sets ws (set l i w) (suc i) (length ws) refl (omega (arith, length-set l i w))))
+part_is l zero at h = refl
+part_is l (suc k) at h =
+    rw (drop-cons l at 0 (omega arith)) (ap (λ t. get_or l at 0 ∷ t) (rw (← add-one at) (part_is l k (at + 1) (omega arith))))
+
+pub front_is : (l : List ℕ) (k : ℕ) → k ≤ length l → take k l ≡ from l 0 k
+front_is l k h = part_is l k 0 (omega arith)
+
+pub range_is : (l : List ℕ) (at k : ℕ) → at + k ≤ length l → take (at + k - at) (drop at l) ≡ from l at k
+range_is l at k h = let e : at + k - at ≡ k = omega arith in rw e (part_is l k at h)
+
+-- numbers that stand in a row elsewhere
+pub from_reads : (l xs : List ℕ) (at k : ℕ) → k ≤ length xs → ((i : ℕ) → i < k → get_or l (at + i) 0 ≡ get_or xs i 0) → from l at k ≡ take k xs
+unfolding from
+from_reads l xs at zero u h = refl
+from_reads l [] at (suc k) u h = absurd (omega arith)
+from_reads l (x ∷ xs) at (suc k) u h =
+    let e : at + 0 ≡ at = omega arith in
+    let r : from l (at + 1) k ≡ take k xs = from_reads l xs (at + 1) k (omega arith) (λ i v. let f : at + 1 + i ≡ at + suc i = omega arith in rw f (h (suc i) (omega arith))) in
+    rw (r, rw e at (h 0 (omega arith)))
 
 pub from_snoc : (l : List ℕ) (at n : ℕ) → from l at (suc n) ≡ from l at n ++ (get_or l (at + n) 0 ∷ [])
 unfolding from

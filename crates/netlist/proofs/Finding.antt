@@ -8,7 +8,7 @@ use mathlib.Core.Option.{Option, none, some}
 use lib.Dec.{eqb}
 use lib.ListN.{get_or, length}
 use borrow.Author.Tests.{eqb-true, eqb-false}
-use Rattle.index.specs.declared.Found.TheVariants.{At}
+use Rattle.std.specs.Prelude.{Some}
 use Rattle.index.specs.Chains.{key_of, chained, found_in, seek}
 use Rattle.index.proofs.Keys.{key_same}
 use Rattle.index.proofs.Seeking.{found_chained}
@@ -22,7 +22,7 @@ use Rattle.netlist.specs.Keys.{keys_in, found_gate}
 use Rattle.netlist.specs.Well.{WellFlat}
 use Rattle.netlist.proofs.Alike.{twins_snoc, gate_few, gate_low}
 use Rattle.netlist.proofs.Arrays.{length-gates}
-use Rattle.netlist.proofs.Keyed.{keys_are_lem}
+use Rattle.netlist.proofs.Keyed.{key_of_gate}
 
 -- the first, or else the second
 first : Option ℕ → Option ℕ → Option ℕ
@@ -41,7 +41,7 @@ with_snoc os k (g ∷ gs) x = go (same_list os g) (with_snoc os (suc k) gs x)
 
 -- no gate is that list
 with_none : (os : List ℕ) (k : ℕ) (gs : List (List ℕ)) → any (λ g. same_list g os) gs ≡ false → gate_with os k gs ≡ none
-unfolding gate_with any pick
+unfolding gate_with pick
 with_none os k [] e = refl
 with_none os k (g ∷ gs) e =
     let h = or_false (same_list g os) (any (λ g. same_list g os) gs) e in
@@ -87,12 +87,12 @@ module _ (n : Netlist) (w : WellFlat n) (single : twins (gates_in n.ops n.counts
       where
         go : (t : Bool) → eqb (get_or (keys_in n) m 0) (key_of os) ≡ t → (u : Bool) → same_list os (gate m) ≡ u → t ≡ u
         go true e u f =
-            let z : key_of os ≡ key_of (gate m) = sym (eqb-true (get_or (keys_in n) m 0) (key_of os) e) ∙ keys_are_lem n w m h in
+            let z : key_of os ≡ key_of (gate m) = sym (eqb-true (get_or (keys_in n) m 0) (key_of os) e) ∙ key_of_gate n w m h in
             let y = key_same os (gate m) z few (gate_few n w m h) low (gate_low n w m h) in
             sym (same_list_refl os) ∙ (rw (← y) at f)
         go false e true f =
             let y = same_list_eq os (gate m) f in
-            absurd (eqb-false (get_or (keys_in n) m 0) (key_of os) e (keys_are_lem n w m h ∙ ap key_of (sym y)))
+            absurd (eqb-false (get_or (keys_in n) m 0) (key_of os) e (key_of_gate n w m h ∙ ap key_of (sym y)))
         go false e false f = refl
 
     seek_with : (m : ℕ) → m ≤ n.gates → found_gate n.inputs (seek (keys_in n) (key_of os) m) ≡ gate_with os n.inputs (gates m)
@@ -102,7 +102,7 @@ module _ (n : Netlist) (w : WellFlat n) (single : twins (gates_in n.ops n.counts
         rw (key_tells m h, with_snoc os n.inputs (gates m) (gate m), length-gates n.ops n.counts m) (go (same_list os (gate m)) refl (seek_with m (omega arith)))
       where
         go : (t : Bool) → same_list os (gate m) ≡ t → found_gate n.inputs (seek (keys_in n) (key_of os) m) ≡ gate_with os n.inputs (gates m)
-            → found_gate n.inputs (pick t (At m) (seek (keys_in n) (key_of os) m)) ≡ first (gate_with os n.inputs (gates m)) (pick t (some (n.inputs + m)) none)
+            → found_gate n.inputs (pick t (Some m) (seek (keys_in n) (key_of os) m)) ≡ first (gate_with os n.inputs (gates m)) (pick t (some (n.inputs + m)) none)
         go true e r =
             let y = same_list_eq os (gate m) e in
             let z : gate_with os n.inputs (gates m) ≡ none = with_none os n.inputs (gates m) (rw y (single_here m h)) in
@@ -110,7 +110,7 @@ module _ (n : Netlist) (w : WellFlat n) (single : twins (gates_in n.ops n.counts
         go false e r = r ∙ sym (first_none (gate_with os n.inputs (gates m)))
 
     -- what `index::find` answers for the netlist's keys and chains is the gate that document 01 means
-    pub finds : found_gate n.inputs (found_in (keys_in n) (chained (keys_in n) (min n.gates 512)).heads (chained (keys_in n) (min n.gates 512)).next (key_of os))
+    pub finds : found_gate n.inputs (found_in (keys_in n) (chained (keys_in n) (min n.gates 512)) (key_of os))
         ≡ gate_with os n.inputs (gates n.gates)
     finds =
         let m : min n.gates 512 ≡ n.gates = omega (arith, w.gates_most) in

@@ -1,17 +1,16 @@
--- A reading without a refusal: its netlist is well, and so are its flat arrays.
+-- A netlist that was read is well, and so are its flat arrays.
 use Prim.Native.Nat.{ℕ, ◌+◌, ◌*◌, ◌<◌}
 use native.Mathlib.Omega.{arith}
-use mathlib.Core.Path.{◌≡◌, sym, ◌∙◌}
+use mathlib.Core.Path.{◌≡◌, sym}
 use mathlib.Core.Bool.{true}
 use mathlib.Core.List.{List, []}
 use lib.ListN.{get_or, length, drop}
-use borrow.Author.Tests.{eq-eqb}
-use Rattle.rules.specs.Basics.{pick, mem}
+use Rattle.std.specs.Prelude.{Ok}
+use Rattle.rules.specs.Basics.{mem}
 use Rattle.rules.specs.Form.{form01}
-use Rattle.rules.specs.Refusals.{good}
 use Rattle.rules.specs.Netlist.{netlist_lines, netlist_of}
 use Rattle.netlist.specs.declared.Netlist.{Netlist}
-use Rattle.netlist.specs.declared.Reading.{Reading}
+use Rattle.netlist.specs.declared.Front.{Front}
 use Rattle.netlist.specs.Flat.{from, gate_in, gates_in, netlist_in, reading_of, part_of, front_of}
 use Rattle.netlist.specs.Well.{Well, WellLines, WellFlat}
 use Rattle.netlist.proofs.Arrays.{length_from, mem-from, length-gate, length-gates, get_or-gates}
@@ -24,8 +23,8 @@ module _ (n : Netlist) (w : WellLines (netlist_in n)) where
   gates_long : length gates ≡ n.gates
   gates_long = length-gates n.ops n.counts n.gates
 
-  outs_long_lem : length (from n.outs 0 n.outputs) ≡ n.outputs
-  outs_long_lem = length_from n.outs 0 n.outputs
+  outputs_long : length (from n.outs 0 n.outputs) ≡ n.outputs
+  outputs_long = length_from n.outs 0 n.outputs
 
   gate_at : (g : ℕ) → g < n.gates → get_or gates g [] ≡ gate_in n.ops n.counts g
   gate_at g h = get_or-gates n.ops n.counts n.gates g [] h
@@ -47,8 +46,8 @@ module _ (n : Netlist) (w : WellLines (netlist_in n)) where
     inputs_most = w.inputs_most;
     gates_least = omega (arith, gates_long, w.gates_least);
     gates_most = omega (arith, gates_long, w.gates_most);
-    outputs_least = omega (arith, outs_long_lem, w.outputs_least);
-    outputs_most = omega (arith, outs_long_lem, w.outputs_most);
+    outputs_least = omega (arith, outputs_long, w.outputs_least);
+    outputs_most = omega (arith, outputs_long, w.outputs_most);
     some = λ g h. omega (arith, gate_long g h, w.some g (omega (arith, gates_long)));
     few = λ g h. omega (arith, gate_long g h, w.few g);
     lower = λ g k h l. w.lower g (get_or n.ops (4 * g + k) 0) (operand_in g k h l);
@@ -57,34 +56,17 @@ module _ (n : Netlist) (w : WellLines (netlist_in n)) where
   }
 
 -- what `read_lines` answers
-module _ (text : List ℕ) (r : Reading) (e : part_of text r ≡ netlist_lines form01 text) (z : r.refusal.number ≡ 0) where
-  pub lines_good : netlist_lines form01 text ≡ good (record { got = netlist_in r.netlist; tail = drop r.tail text })
-  unfolding part_of pick
-  lines_good = sym e ∙ rw (eq-eqb r.refusal.number 0 z)
-
-  pub lines_well : WellLines (netlist_in r.netlist)
-  lines_well = well_lines text (record { got = netlist_in r.netlist; tail = drop r.tail text }) lines_good
-
-  pub lines_flat : WellFlat r.netlist
-  lines_flat = flat r.netlist lines_well
+pub lines_flat : (text : List ℕ) (f : Front) → part_of text (Ok f) ≡ netlist_lines form01 text → WellFlat f.netlist
+lines_flat text f e = flat f.netlist (well_lines text (record { got = netlist_in f.netlist; tail = drop f.tail text }) (sym e))
 
 -- what `read` answers
-module _ (text : List ℕ) (r : Reading) (e : reading_of r ≡ netlist_of form01 text) (z : r.refusal.number ≡ 0) where
-  pub read_good : netlist_of form01 text ≡ good (netlist_in r.netlist)
-  unfolding reading_of pick
-  read_good = sym e ∙ rw (eq-eqb r.refusal.number 0 z)
+module _ (text : List ℕ) (n : Netlist) (e : reading_of (Ok n) ≡ netlist_of form01 text) where
+  pub read_well : Well (netlist_in n)
+  read_well = well text (netlist_in n) (sym e)
 
-  pub read_well : Well (netlist_in r.netlist)
-  read_well = well text (netlist_in r.netlist) read_good
-
-  pub read_flat : WellFlat r.netlist
-  read_flat = flat r.netlist read_well.lines
+  pub read_flat : WellFlat n
+  read_flat = flat n read_well.lines
 
 -- what `read_front` answers
-module _ (text : List ℕ) (r : Reading) (e : part_of text r ≡ front_of text) (z : r.refusal.number ≡ 0) where
-  pub front_good : front_of text ≡ good (record { got = netlist_in r.netlist; tail = drop r.tail text })
-  unfolding part_of pick
-  front_good = sym e ∙ rw (eq-eqb r.refusal.number 0 z)
-
-  pub front_well : Well (netlist_in r.netlist)
-  front_well = well_front text (record { got = netlist_in r.netlist; tail = drop r.tail text }) front_good
+pub front_well : (text : List ℕ) (f : Front) → part_of text (Ok f) ≡ front_of text → Well (netlist_in f.netlist)
+front_well text f e = well_front text (record { got = netlist_in f.netlist; tail = drop f.tail text }) (sym e)

@@ -2,10 +2,9 @@ pub mod Arrays
 pub mod OneLine
 pub mod HeadLine
 pub mod OutputLine
-pub mod Operands
+pub mod Ascending
 pub mod OneGate
 pub mod Following
-pub mod Numbered
 pub mod Whole
 pub mod Well
 pub mod FlatWell

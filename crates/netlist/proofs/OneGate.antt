@@ -1,26 +1,22 @@
 -- The line of one gate: its operands, then 4, then 5.
-use Prim.Native.Nat.{ℕ, ◌+◌, ◌*◌, ◌<◌, ◌≤◌}
+use Prim.Native.Nat.{ℕ, ◌+◌, ◌*◌, ◌≤◌}
 use native.Mathlib.Omega.{arith}
-use mathlib.Core.Path.{◌≡◌, refl, sym, ◌∙◌, subst}
+use mathlib.Core.Path.{◌≡◌, refl, sym, ap, ◌∙◌}
 use mathlib.Core.Bool.{Bool, true, false}
-use mathlib.Core.List.{List}
+use mathlib.Core.List.{List, ◌++◌}
 use mathlib.Core.Option.{Option, none, some}
 use lib.Dec.{ltb}
-use lib.ListN.{get_or, length, drop}
-use lib.Seq.{sets, length-sets}
-use Rattle.rules.specs.declared.Refusal.{Refusal}
-use Rattle.rules.specs.declared.Answer.{Answer}
-use Rattle.rules.specs.declared.Answer.TheVariants.{Given, Refused}
+use lib.ListN.{length, take, drop}
+use lib.Seq.{take-append_seam}
+use Rattle.std.proofs.lemmas.List.{length-take-le}
 use Rattle.rules.specs.Basics.{within, all, ascending}
 use Rattle.rules.specs.Form.{form01, two}
 use Rattle.rules.specs.Refusals.{Res, good, refused, ◌>>=◌, ◌>>◌, require, or_refuse}
 use Rattle.rules.specs.Lines.{Line, line, numbers}
 use Rattle.rules.specs.Netlist.{Part, due, gate_of}
 use Rattle.lines.specs.Line.{words_from}
-use Rattle.netlist.specs.Flat.{from}
-use Rattle.netlist.specs.Steps.{line_by, operands_in, operands_meant, OperandsFit, OperandsRead, gate_meant, GateRead}
-use Rattle.netlist.proofs.Arrays.{sets_below, from_sets}
-use Rattle.netlist.proofs.OneLine.{length-words, none_given}
+use Rattle.netlist.specs.Steps.{line_by, operands_in, operands_line, gate_line}
+use Rattle.netlist.proofs.OneLine.{length-words}
 
 -- what a line gives, and the text after it
 abbrev part : {A : Type 0} → A → List ℕ → Res (Part A)
@@ -71,66 +67,35 @@ line_splits {A} {B} f g rule h text = go (line form01 text)
     go (refused r) = refl
 
 module _ (text : List ℕ) (at own : ℕ) where
-  splits : line_by (gate_of form01 own) (drop at text) ≡ (line_by operands_in (drop at text) >>= λ p. checks own p.got >>= λ b. part b p.tail)
+  splits : gate_line text at own ≡ (operands_line text at >>= λ p. checks own p.got >>= λ b. part b p.tail)
   splits = line_splits operands_in (checks own) (gate_of form01 own) (gate_splits own) (drop at text)
 
-  pub gate_none : (g : ℕ) (ops : List ℕ) (a : Answer) (r : Refusal) → OperandsRead text at a → a ≡ Refused r → GateRead text at own g ops ops a
-  unfolding operands_meant gate_meant ◌>>=◌
-  gate_none g ops a r o e = subst (GateRead text at own g ops ops) (sym e) (record {
-    means = let m : line_by operands_in (drop at text) ≡ refused r = sym o.means ∙ rw e in sym (splits ∙ rw m);
-    fits = λ k z. absurd (none_given z);
-    below = λ i h. refl;
-    long = refl;
-  })
+  pub gate_none : (r : ℕ) → refused r ≡ operands_line text at → refused r ≡ gate_line text at own
+  unfolding ◌>>=◌
+  gate_none r e = sym (splits ∙ rw (← e))
 
-  module _ (g : ℕ) (ops : List ℕ) (k : ℕ) (o : OperandsRead text at (Given k)) (after : List ℕ) (e : after ≡ sets ops (4 * g) (words_from text (at + 2) k)) where
-    fit : OperandsFit text at k
-    fit = o.fits k refl
+  -- the operands were written over the front of their room
+  module _ (k : ℕ) (few : k ≤ 4) (o : part (words_from text (at + 2) k) (drop (at + 4 * k + 3) text) ≡ operands_line text at)
+      (before os : List ℕ) (l : length before ≡ 4) (e : os ≡ words_from text (at + 2) (length (take k before))) where
+    named : os ≡ words_from text (at + 2) k
+    named = let m : k ≤ length before = omega arith in e ∙ rw (length-take-le k before m)
 
-    got : (h : 4 * g + 4 ≤ length ops) → from after (4 * g) k ≡ words_from text (at + 2) k
-    got h = rw e (from_sets (words_from text (at + 2) k) ops (4 * g) k (length-words text k (at + 2)) (omega (arith, fit.most)))
+    front : take k (os ++ drop k before) ≡ os
+    front = let m : length os ≡ k = ap length named ∙ length-words text k (at + 2) in rw (← m) (take-append_seam os (drop (length os) before))
 
-    judged : line_by (gate_of form01 own) (drop at text) ≡ (checks own (words_from text (at + 2) k) >>= λ b. part b (drop (at + 4 * k + 3) text))
-    unfolding operands_meant ◌>>=◌
-    judged = splits ∙ rw (sym o.means)
+    judged : gate_line text at own ≡ (checks own os >>= λ b. part b (drop (at + 4 * k + 3) text))
+    unfolding ◌>>=◌
+    judged = splits ∙ rw (← o, ← named)
 
-    kept : (i : ℕ) → i < 4 * g → get_or after i 0 ≡ get_or ops i 0
-    kept i h = rw e (sets_below (words_from text (at + 2) k) ops (4 * g) i h)
+    pub gate_high : false ≡ all (λ o. ltb o own) os → refused 4 ≡ gate_line text at own
+    unfolding checks ◌>>=◌ ◌>>◌ require
+    gate_high t = sym (judged ∙ rw (← t))
 
-    same : length after ≡ length ops
-    same = rw e (length-sets ops (4 * g) (words_from text (at + 2) k))
+    module _ (t : true ≡ all (λ o. ltb o own) os) where
+      pub gate_falls : false ≡ ascending os → refused 5 ≡ gate_line text at own
+      unfolding checks ◌>>=◌ ◌>>◌ require
+      gate_falls d = sym (judged ∙ rw (← t, ← d))
 
-    module _ (h : 4 * g + 4 ≤ length ops) where
-      pub gate_high : all (λ o. ltb o own) (from after (4 * g) k) ≡ false → GateRead text at own g ops after (Refused (record { number = 4 }))
-      unfolding gate_meant checks ◌>>=◌ ◌>>◌ require
-      gate_high t = record {
-        means = let u : all (λ o. ltb o own) (words_from text (at + 2) k) ≡ false = rw (got h) at t in sym (judged ∙ rw u);
-        fits = λ k z. absurd (none_given z);
-        below = kept;
-        long = same;
-      }
-
-      module _ (t : all (λ o. ltb o own) (from after (4 * g) k) ≡ true) where
-        pub gate_falls : ascending (from after (4 * g) k) ≡ false → GateRead text at own g ops after (Refused (record { number = 5 }))
-        unfolding gate_meant checks ◌>>=◌ ◌>>◌ require
-        gate_falls d = record {
-          means =
-              let u : all (λ o. ltb o own) (words_from text (at + 2) k) ≡ true = rw (got h) at t in
-              let v : ascending (words_from text (at + 2) k) ≡ false = rw (got h) at d in
-              sym (judged ∙ rw (u, v));
-          fits = λ k z. absurd (none_given z);
-          below = kept;
-          long = same;
-        }
-
-        pub gate_good : ascending (from after (4 * g) k) ≡ true → GateRead text at own g ops after (Given k)
-        unfolding gate_meant checks ◌>>=◌ ◌>>◌ require
-        gate_good d = record {
-          means =
-              let u : all (λ o. ltb o own) (words_from text (at + 2) k) ≡ true = rw (got h) at t in
-              let v : ascending (words_from text (at + 2) k) ≡ true = rw (got h) at d in
-              rw (got h) (sym (judged ∙ rw (u, v)));
-          fits = o.fits;
-          below = kept;
-          long = same;
-        }
+      pub gate_good : true ≡ ascending os → part (take k (os ++ drop k before)) (drop (at + 4 * k + 3) text) ≡ gate_line text at own
+      unfolding checks ◌>>=◌ ◌>>◌ require
+      gate_good d = rw front (sym (judged ∙ rw (← t, ← d)))

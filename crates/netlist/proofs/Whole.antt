@@ -1,29 +1,20 @@
 -- The lines of a whole netlist: what a reading says, refused or not, and its tail.
 use Prim.Native.Nat.{ℕ}
-use native.Mathlib.Omega.{arith}
 use mathlib.Core.Path.{◌≡◌, refl, sym, ap, ◌∙◌}
-use mathlib.Core.Bool.{false}
 use mathlib.Core.List.{List, []}
-use lib.Dec.{eqb}
 use lib.ListN.{length, drop}
 use lib.Seq.{drop-length}
-use borrow.Author.Tests.{eq-eqb, ne_eqb}
-use Rattle.rules.specs.declared.Refusal.{Refusal}
-use Rattle.rules.specs.declared.Answer.{Answer}
-use Rattle.rules.specs.declared.Answer.TheVariants.{Given, Refused}
-use Rattle.rules.specs.Basics.{pick}
+use Rattle.std.specs.Prelude.{Ok}
 use Rattle.rules.specs.Form.{form01}
 use Rattle.rules.specs.Refusals.{Res, good, refused, ◌>>=◌}
 use Rattle.rules.specs.Lines.{Line, line}
 use Rattle.rules.specs.Netlist as rules
 use Rattle.rules.specs.Netlist.{Part, head_of, gate_of, output_of, lines, netlist_lines, netlist_tail, tail_of}
 use Rattle.rules.specs.Calls.{tail_outcome}
-use Rattle.netlist.specs.declared.Reading.{Reading}
+use Rattle.netlist.specs.declared.Netlist.{Netlist}
 use Rattle.netlist.specs.declared.line.Head.{Head}
-use Rattle.netlist.specs.declared.line.Head.TheVariants as head
-use Rattle.netlist.specs.Flat.{from, gates_in, netlist_in, part_of}
-use Rattle.netlist.specs.Steps.{line_by, head_meant, head_refusal, HeadRead, gates_meant, GatesRead, outputs_meant, OutputsRead, refusal_in}
-use Rattle.netlist.proofs.Numbered.{numbered}
+use Rattle.netlist.specs.Flat.{from, gates_in, netlist_in}
+use Rattle.netlist.specs.Steps.{line_by, part, head_in, head_from, head_line, gate_lines, output_lines}
 
 -- ---- stage by stage
 
@@ -52,67 +43,58 @@ after_head text = go (line form01 text)
     go (good l) = second l (head_of form01 l.bytes)
     go (refused r) = refl
 
--- ---- a reading that was refused
+-- ---- what a reading says
 
-refused_is : (text : List ℕ) (q : Reading) (r : Refusal) → netlist_lines form01 text ≡ refused r → q.refusal ≡ r → part_of text q ≡ netlist_lines form01 text
-unfolding part_of pick
-refused_is text q r e f =
-    let z : eqb q.refusal.number 0 ≡ false = ne_eqb q.refusal.number 0 (λ z. let n = numbered text r e in let y : r.number ≡ 0 = rw (← f) z in omega arith) in
-    rw (z, f) (sym e)
+pub no_head_read : (text : List ℕ) (r : ℕ) → refused r ≡ head_line text → refused r ≡ netlist_lines form01 text
+unfolding ◌>>=◌
+no_head_read text r w = sym (after_head text ∙ rw (← w))
 
-module _ (text : List ℕ) (q : Reading) where
-  pub no_head_read : (h : Head) (r : Refusal) → HeadRead text h → h ≡ head.Refused r → q.refusal ≡ head_refusal h → part_of text q ≡ netlist_lines form01 text
-  unfolding head_meant ◌>>=◌
-  no_head_read h r w e f =
-      let m : line_by (head_of form01) text ≡ refused r = sym w.means ∙ rw e in
-      refused_is text q r (after_head text ∙ rw m) (f ∙ rw e)
+module _ (text : List ℕ) (h : Head) (w : part text head_in (λ _. 11) (Ok h) ≡ head_line text) where
+  after_numbers : netlist_lines form01 text ≡ (lines form01 (gate_of form01) h.gates h.inputs [] (drop 11 text) >>= with_outputs (head_in h))
+  unfolding with_gates ◌>>=◌
+  after_numbers = after_head text ∙ rw (← w)
 
-module _ (text : List ℕ) (h : Head) (i g o : ℕ) (w : HeadRead text h) (e : h ≡ head.Of i g o) where
-  abbrev numbers : rules.Head
-  numbers = record { inputs = i; gates = g; outputs = o }
+  -- the netlist after its gates' lines
+  module _ (outs₀ : List ℕ) (n : Netlist) (kept : n ≡ record { inputs = h.inputs; gates = h.gates; outputs = h.outputs; ops = n.ops; counts = n.counts; outs = outs₀ }) where
+    gates_lines : gate_lines text 11 n ≡ lines form01 (gate_of form01) h.gates h.inputs [] (drop 11 text)
+    gates_lines = ap (gate_lines text 11) kept
 
-  after_numbers : netlist_lines form01 text ≡ (lines form01 (gate_of form01) g i [] (drop 11 text) >>= with_outputs numbers)
-  unfolding head_meant with_gates ◌>>=◌
-  after_numbers =
-      let m : line_by (head_of form01) text ≡ good (record { got = numbers; tail = drop 11 text }) = sym w.means ∙ rw e in
-      after_head text ∙ rw m
+    pub no_gates_read : (r : ℕ) → refused r ≡ gate_lines text 11 n → refused r ≡ netlist_lines form01 text
+    unfolding ◌>>=◌
+    no_gates_read r u = sym (after_numbers ∙ rw (← gates_lines, ← u))
 
-  module _ (ops counts : List ℕ) (a : Answer) (u : GatesRead text 11 i g ops counts a) where
-    pub no_gates_read : (q : Reading) (r : Refusal) → a ≡ Refused r → q.refusal ≡ refusal_in a → part_of text q ≡ netlist_lines form01 text
-    unfolding gates_meant ◌>>=◌
-    no_gates_read q r z f =
-        let m : lines form01 (gate_of form01) g i [] (drop 11 text) ≡ refused r = sym u.means ∙ rw z in
-        refused_is text q r (after_numbers ∙ rw m) (f ∙ rw z)
+    module _ (middle : ℕ) (u : part text (λ _. gates_in n.ops n.counts n.gates) (λ at. at) (Ok middle) ≡ gate_lines text 11 n) where
+      after_gates : netlist_lines form01 text ≡ with_outputs (head_in h) (record { got = gates_in n.ops n.counts n.gates; tail = drop middle text })
+      unfolding ◌>>=◌
+      after_gates = after_numbers ∙ rw (← gates_lines, ← u)
 
-    module _ (middle : ℕ) (z : a ≡ Given middle) where
-      after_gates : netlist_lines form01 text ≡ with_outputs numbers (record { got = gates_in ops counts g; tail = drop middle text })
-      unfolding gates_meant ◌>>=◌
-      after_gates =
-          let m : lines form01 (gate_of form01) g i [] (drop 11 text) ≡ good (record { got = gates_in ops counts g; tail = drop middle text }) = sym u.means ∙ rw z in
-          after_numbers ∙ rw m
+      -- the netlist after its outputs' lines
+      module _ (m : Netlist) (still : m ≡ record n { outs = m.outs }) where
+        head_same : head_from m ≡ head_in h
+        head_same = ap head_from still ∙ ap head_from kept
 
-      module _ (outs : List ℕ) (b : Answer) (v : OutputsRead text middle i g o outs b) where
-        pub no_outputs_read : (q : Reading) (r : Refusal) → b ≡ Refused r → q.refusal ≡ refusal_in b → part_of text q ≡ netlist_lines form01 text
-        unfolding outputs_meant with_outputs ◌>>=◌
-        no_outputs_read q r y f =
-            let m : lines form01 (λ _. output_of form01 numbers) o 0 [] (drop middle text) ≡ refused r = sym v.means ∙ rw y in
-            refused_is text q r (after_gates ∙ rw m) (f ∙ rw y)
+        after_both : netlist_lines form01 text ≡ (output_lines text middle m >>= λ os. good (record { got = record { inputs = m.inputs; gates = gates_in m.ops m.counts m.gates; outputs = os.got }; tail = os.tail }))
+        unfolding with_outputs
+        after_both =
+            after_gates
+            ∙ ap (λ x. with_outputs x (record { got = gates_in n.ops n.counts n.gates; tail = drop middle text })) (sym head_same)
+            ∙ ap (λ g. with_outputs (head_from m) (record { got = g; tail = drop middle text })) (sym (ap (λ (x : Netlist). gates_in x.ops x.counts x.gates) still))
 
-        pub netlist_read : (end : ℕ) → b ≡ Given end
-            → part_of text (record { refusal = record { number = 0 }; tail = end; netlist = record { inputs = i; gates = g; outputs = o; ops = ops; counts = counts; outs = outs } })
-            ≡ netlist_lines form01 text
-        unfolding outputs_meant with_outputs part_of netlist_in pick ◌>>=◌
-        netlist_read end y =
-            let m : lines form01 (λ _. output_of form01 numbers) o 0 [] (drop middle text) ≡ good (record { got = from outs 0 o; tail = drop end text }) = sym v.means ∙ rw y in
-            sym (after_gates ∙ rw m)
+        pub no_outputs_read : (r : ℕ) → refused r ≡ output_lines text middle m → refused r ≡ netlist_lines form01 text
+        unfolding ◌>>=◌
+        no_outputs_read r v = sym (after_both ∙ rw (← v))
+
+        pub netlist_read : (end : ℕ) → part text (λ _. from m.outs 0 m.outputs) (λ at. at) (Ok end) ≡ output_lines text middle m
+            → good (record { got = netlist_in m; tail = drop end text }) ≡ netlist_lines form01 text
+        unfolding netlist_in ◌>>=◌
+        netlist_read end v = sym (after_both ∙ rw (← v))
 
 -- ---- the tail
 
-module _ (text : List ℕ) (q : Reading) (w : part_of text q ≡ netlist_lines form01 text) where
-  pub tail_none : (q.refusal.number ≡ 0 → ⊥) → drop (length text) text ≡ tail_outcome text
-  unfolding tail_outcome netlist_tail tail_of part_of pick
-  tail_none h = drop-length text ∙ sym (ap tail_of (sym w) ∙ rw (ne_eqb q.refusal.number 0 h))
+pub tail_none : (text : List ℕ) (r : ℕ) → refused r ≡ netlist_lines form01 text → drop (length text) text ≡ tail_outcome text
+unfolding tail_outcome netlist_tail tail_of
+tail_none text r w = drop-length text ∙ ap tail_of w
 
-  pub tail_read : q.refusal.number ≡ 0 → drop q.tail text ≡ tail_outcome text
-  unfolding tail_outcome netlist_tail tail_of part_of pick
-  tail_read h = sym (ap tail_of (sym w) ∙ rw (eq-eqb q.refusal.number 0 h))
+pub tail_read : (text : List ℕ) (p : Part rules.Netlist) → good p ≡ netlist_lines form01 text → p.tail ≡ tail_outcome text
+unfolding tail_outcome netlist_tail tail_of
+tail_read text p w = ap tail_of w

@@ -1,14 +1,14 @@
 -- The netlist that flat arrays stand for, and what a reading says.
 -- Assumes nothing.
-use Rattle.std.specs.Prelude.{ℕ, zero, suc, ◌+◌, ◌*◌, ◌≡◌, Bool, ◌||◌, List, [], ◌∷◌, ◌++◌, eqb, get_or, drop}
-use Rattle.rules.specs.Basics.{pick, repeats}
+use Rattle.std.specs.Prelude.{ℕ, zero, suc, ◌+◌, ◌*◌, Bool, ◌||◌, List, [], ◌∷◌, ◌++◌, get_or, drop, Result}
+use Rattle.rules.specs.Basics.{repeats}
 use Rattle.rules.specs.declared.Refusal.{Refusal}
 use Rattle.rules.specs.Form.{form01}
-use Rattle.rules.specs.Refusals.{Res, good, refused, ◌>>=◌}
+use Rattle.rules.specs.Refusals.{Res, good, ◌>>=◌, meaning_by}
 use Rattle.rules.specs.Netlist as rules
 use Rattle.rules.specs.Netlist.{Part, netlist_lines, well_formed, twins}
 use Rattle.netlist.specs.declared.Netlist.{Netlist}
-use Rattle.netlist.specs.declared.Reading.{Reading}
+use Rattle.netlist.specs.declared.Front.{Front}
 
 -- n numbers from a place on
 unfoldable pub from : List ℕ → ℕ → ℕ → List ℕ
@@ -31,14 +31,16 @@ unfolding gates_in from
 netlist_in n = record { inputs = n.inputs; gates = gates_in n.ops n.counts n.gates; outputs = from n.outs 0 n.outputs }
 
 -- what a reading says: the netlist, or the refusal
-unfoldable pub reading_of : Reading → Res rules.Netlist
-unfolding pick netlist_in
-reading_of r = pick (eqb r.refusal.number 0) (good (netlist_in r.netlist)) (refused r.refusal)
+abbrev pub reading_of : Result Netlist Refusal → Res rules.Netlist
+reading_of r = meaning_by netlist_in r
 
 -- the netlist with the text after its last output line, or the refusal
-unfoldable pub part_of : List ℕ → Reading → Res (Part rules.Netlist)
-unfolding pick netlist_in
-part_of text r = pick (eqb r.refusal.number 0) (good (record { got = netlist_in r.netlist; tail = drop r.tail text })) (refused r.refusal)
+abbrev pub part_of : List ℕ → Result Front Refusal → Res (Part rules.Netlist)
+part_of text r = meaning_by (λ f. record { got = netlist_in f.netlist; tail = drop f.tail text }) r
+
+-- what 6 and 7 say of a netlist
+abbrev pub formed_of : Netlist → Result (Unit {0}) Refusal → Res rules.Netlist
+formed_of n r = meaning_by (λ _. netlist_in n) r
 
 -- the netlist that a text begins with, and the text after it: its lines, then 6, then 7
 unfoldable pub front_of : List ℕ → Res (Part rules.Netlist)
@@ -52,19 +54,3 @@ front_of text = do
 unfoldable pub any_twins : rules.Netlist → Bool
 unfolding twins repeats
 any_twins N = twins N.gates || repeats N.outputs
-
--- 6 goes before 7; number 0 where there is none
-unfoldable pub first_of : Bool → Bool → Refusal
-unfolding pick
-first_of used twin = pick used (pick twin (record { number = 7 }) (record { number = 0 })) (record { number = 6 })
-
--- what the refusal of a netlist says, number 0 where there is none
-unfoldable pub formed_of : Refusal → rules.Netlist → Res rules.Netlist
-unfolding pick
-formed_of r N = pick (eqb r.number 0) (good N) (refused r)
-
--- a reading after 6 and 7 were asked of it
-pub record Judged (r q : Reading) : Type 0 where
-  pub tail_same : q.tail ≡ r.tail
-  pub netlist_same : q.netlist ≡ r.netlist
-  pub says : formed_of q.refusal (netlist_in r.netlist) ≡ well_formed (netlist_in r.netlist)

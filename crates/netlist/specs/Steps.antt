@@ -1,19 +1,15 @@
 -- What the steps of the reader answer, in terms of document 01's rules for lines.
 -- Assumes nothing.
-use Rattle.std.specs.Prelude.{ℕ, ◌+◌, ◌*◌, ◌<◌, ◌≤◌, ◌≡◌, List, [], get_or, length, drop}
+use Rattle.std.specs.Prelude.{ℕ, ◌+◌, ◌*◌, ◌≤◌, List, [], length, drop, Result}
 use Rattle.rules.specs.declared.Refusal.{Refusal}
-use Rattle.rules.specs.declared.Answer.{Answer}
-use Rattle.rules.specs.declared.Answer.TheVariants.{Given, Refused}
-use Rattle.rules.specs.Basics.{pick, within}
+use Rattle.rules.specs.Basics.{within}
 use Rattle.rules.specs.Form.{form01, two}
-use Rattle.rules.specs.Refusals.{Res, good, refused, ◌>>=◌, ◌>>◌, require, or_refuse}
+use Rattle.rules.specs.Refusals.{Res, good, ◌>>=◌, ◌>>◌, require, or_refuse, meaning_by}
 use Rattle.rules.specs.Lines.{line, numbers}
 use Rattle.rules.specs.Netlist as rules
 use Rattle.rules.specs.Netlist.{Part, due, head_of, gate_of, output_of, lines}
-use Rattle.lines.specs.Line.{words_from}
+use Rattle.netlist.specs.declared.Netlist.{Netlist}
 use Rattle.netlist.specs.declared.line.Head.{Head}
-use Rattle.netlist.specs.declared.line.Head.TheVariants as head
-use Rattle.netlist.specs.Flat.{from, gates_in}
 
 -- one line by a rule: what it gives, and the text after it
 unfoldable pub line_by : {A : Type 0} → (List ℕ → Res A) → List ℕ → Res (Part A)
@@ -23,39 +19,21 @@ line_by rule text = do
   a ← rule l.bytes
   good (record { got = a; tail = l.rest })
 
-abbrev pub refusal_in : Answer → Refusal
-refusal_in (Given n) = record { number = 0 }
-refusal_in (Refused r) = r
+-- what a step answers: what was got, with the text from a place on, or the refusal
+abbrev pub part : {A B : Type 0} → List ℕ → (A → B) → (A → ℕ) → Result A Refusal → Res (Part B)
+part text got place r = meaning_by (λ a. record { got = got a; tail = drop (place a) text }) r
 
 -- ---- the head
 
-unfoldable pub head_meant : List ℕ → Head → Res (Part rules.Head)
-head_meant text (head.Of i g o) = good (record { got = record { inputs = i; gates = g; outputs = o }; tail = drop 11 text })
-head_meant text (head.Refused r) = refused r
+abbrev pub head_in : Head → rules.Head
+head_in h = record { inputs = h.inputs; gates = h.gates; outputs = h.outputs }
 
-abbrev pub head_refusal : Head → Refusal
-head_refusal (head.Of i g o) = record { number = 0 }
-head_refusal (head.Refused r) = r
+abbrev pub head_line : List ℕ → Res (Part rules.Head)
+head_line text = line_by (head_of form01) text
 
 -- a head's numbers are within the limits, and its line stands inside the text
-pub record HeadFits (text : List ℕ) (inputs gates outputs : ℕ) : Type 0 where
-  pub inputs_most : inputs ≤ 64
-  pub gates_most : gates ≤ 512
-  pub outputs_most : outputs ≤ 64
-  pub inside : 11 ≤ length text
-
-pub record HeadRead (text : List ℕ) (r : Head) : Type 0 where
-  pub means : head_meant text r ≡ line_by (head_of form01) text
-  pub fits : (i g o : ℕ) → r ≡ head.Of i g o → HeadFits text i g o
-
-unfoldable pub head_numbers : ℕ → ℕ → ℕ → Head
-unfolding pick
-head_numbers i g o =
-    pick (within 1 64 i)
-    (pick (within 1 512 g)
-    (pick (within 1 64 o) (head.Of i g o) (head.Refused (record { number = 3 })))
-    (head.Refused (record { number = 3 })))
-    (head.Refused (record { number = 3 }))
+abbrev pub HeadFits : List ℕ → Head → Type 0
+HeadFits text h = (h.inputs ≤ 64) × (h.gates ≤ 512) × (h.outputs ≤ 64) × (11 ≤ length text)
 
 -- ---- a gate
 
@@ -68,60 +46,29 @@ operands_in bytes = do
   require (within 1 4 (length os)) 2
   good os
 
-unfoldable pub operands_meant : List ℕ → ℕ → Answer → Res (Part (List ℕ))
-operands_meant text at (Given k) = good (record { got = words_from text (at + 2) k; tail = drop (at + 4 * k + 3) text })
-operands_meant text at (Refused r) = refused r
+abbrev pub operands_line : List ℕ → ℕ → Res (Part (List ℕ))
+operands_line text at = line_by operands_in (drop at text)
+
+-- by the signal that the gate is
+abbrev pub gate_line : List ℕ → ℕ → ℕ → Res (Part (List ℕ))
+gate_line text at own = line_by (gate_of form01 own) (drop at text)
 
 -- k operands stand inside the text, with the line feed behind them
-pub record OperandsFit (text : List ℕ) (at k : ℕ) : Type 0 where
-  pub least : 1 ≤ k
-  pub most : k ≤ 4
-  pub inside : at + 4 * k + 3 ≤ length text
-
-pub record OperandsRead (text : List ℕ) (at : ℕ) (r : Answer) : Type 0 where
-  pub means : operands_meant text at r ≡ line_by operands_in (drop at text)
-  pub fits : (k : ℕ) → r ≡ Given k → OperandsFit text at k
-
-unfoldable pub gate_meant : List ℕ → ℕ → List ℕ → ℕ → Answer → Res (Part (List ℕ))
-gate_meant text at ops g (Given k) = good (record { got = from ops (4 * g) k; tail = drop (at + 4 * k + 3) text })
-gate_meant text at ops g (Refused r) = refused r
-
-pub record GateRead (text : List ℕ) (at own g : ℕ) (before after : List ℕ) (r : Answer) : Type 0 where
-  pub means : gate_meant text at after g r ≡ line_by (gate_of form01 own) (drop at text)
-  pub fits : (k : ℕ) → r ≡ Given k → OperandsFit text at k
-  pub below : (i : ℕ) → i < 4 * g → get_or after i 0 ≡ get_or before i 0
-  pub long : length after ≡ length before
+abbrev pub OperandsFit : List ℕ → ℕ → ℕ → Type 0
+OperandsFit text at k = (1 ≤ k) × (k ≤ 4) × (at + 4 * k + 3 ≤ length text)
 
 -- ---- an output
 
-unfoldable pub output_meant : List ℕ → ℕ → Answer → Res (Part ℕ)
-output_meant text at (Given s) = good (record { got = s; tail = drop (at + 7) text })
-output_meant text at (Refused r) = refused r
+abbrev pub head_from : Netlist → rules.Head
+head_from n = record { inputs = n.inputs; gates = n.gates; outputs = n.outputs }
 
--- an output stands inside the text, with the line feed behind it, and is a gate
-pub record OutputFits (text : List ℕ) (at most s : ℕ) : Type 0 where
-  pub inside : at + 7 ≤ length text
-  pub low : s < most
-
--- by the head's inputs and gates, whatever its outputs
-pub record OutputRead (text : List ℕ) (at inputs gates : ℕ) (r : Answer) : Type 0 where
-  pub means : (outputs : ℕ) → output_meant text at r ≡ line_by (output_of form01 (record { inputs = inputs; gates = gates; outputs = outputs })) (drop at text)
-  pub fits : (s : ℕ) → r ≡ Given s → OutputFits text at (inputs + gates) s
+abbrev pub output_line : List ℕ → ℕ → Netlist → Res (Part ℕ)
+output_line text at n = line_by (output_of form01 (head_from n)) (drop at text)
 
 -- ---- line after line
 
-unfoldable pub gates_meant : List ℕ → List ℕ → List ℕ → ℕ → Answer → Res (Part (List (List ℕ)))
-gates_meant text ops counts n (Given at) = good (record { got = gates_in ops counts n; tail = drop at text })
-gates_meant text ops counts n (Refused r) = refused r
+abbrev pub gate_lines : List ℕ → ℕ → Netlist → Res (Part (List (List ℕ)))
+gate_lines text start n = lines form01 (gate_of form01) n.gates n.inputs [] (drop start text)
 
-pub record GatesRead (text : List ℕ) (start inputs n : ℕ) (ops counts : List ℕ) (r : Answer) : Type 0 where
-  pub means : gates_meant text ops counts n r ≡ lines form01 (gate_of form01) n inputs [] (drop start text)
-  pub inside : (at : ℕ) → r ≡ Given at → at ≤ length text
-
-unfoldable pub outputs_meant : List ℕ → List ℕ → ℕ → Answer → Res (Part (List ℕ))
-outputs_meant text outs n (Given at) = good (record { got = from outs 0 n; tail = drop at text })
-outputs_meant text outs n (Refused r) = refused r
-
-pub record OutputsRead (text : List ℕ) (start inputs gates n : ℕ) (outs : List ℕ) (r : Answer) : Type 0 where
-  pub means : outputs_meant text outs n r ≡ lines form01 (λ _. output_of form01 (record { inputs = inputs; gates = gates; outputs = n })) n 0 [] (drop start text)
-  pub inside : (at : ℕ) → r ≡ Given at → at ≤ length text
+abbrev pub output_lines : List ℕ → ℕ → Netlist → Res (Part (List ℕ))
+output_lines text start n = lines form01 (λ _. output_of form01 (head_from n)) n.outputs 0 [] (drop start text)

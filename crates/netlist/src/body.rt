@@ -1,58 +1,48 @@
 // The gates and the outputs of a netlist, line after line.
-ghost use Rattle.std.specs.Prelude.{◌≡◌, ◌≤◌, length};
-ghost use Rattle.netlist.specs.Steps.{GatesRead, OutputsRead};
+ghost use Rattle.std.specs.Prelude.{◌≡◌, ◌≤◌, length, IfOk};
+ghost use Rattle.netlist.specs.Flat.{from, gates_in};
+ghost use Rattle.netlist.specs.Steps.{part, gate_lines, output_lines};
 
-use crate::line;
-use rules::Answer;
+use crate::{Netlist, line};
+use rules::Refusal;
 
-// The gates' lines from a place on: their operands and counts stored. The answer is the place after them.
-pub(crate) fn read_gates(
-    text: &[u8],
-    start: usize,
-    inputs: usize,
-    gates: usize,
-    ops: &mut [u16; 2048],
-    counts: &mut [u8; 512],
-) -> Answer
-    requires { (start ≤ length text.now) × (inputs ≤ 64) × (gates ≤ 512) × (length ops.old ≡ 2048) × (length counts.old ≡ 512) }
-    ensures { GatesRead text.now start inputs gates ops.new counts.new result }
-{
-    let mut at = start;
-    let mut g = 0;
-    while g < gates {
-        let a = line::read_gate(text, at, inputs + g, ops, g);
-        let Answer::Given(k) = a else {
-            return a;
-        };
-        counts[g] = k as u8;
-        at += 4 * k + 3;
-        g += 1;
+impl Netlist {
+    // The gates' lines from a place on: their operands and counts stored. The answer is the place after them.
+    pub(crate) fn read_gates(&mut self, text: &[u8], start: usize) -> Result<usize, Refusal>
+        requires { (start ≤ length text.now) × (self.old.inputs ≤ 64) × (self.old.gates ≤ 512) }
+        ensures means { part text.now (λ _. gates_in self.new.ops self.new.counts self.new.gates) (λ at. at) result ≡ gate_lines text.now start self.new }
+        ensures inside { IfOk result (λ at. at ≤ length text.now) }
+        ensures kept { self.new ≡ record self.old { ops = self.new.ops; counts = self.new.counts } }
+    {
+        let mut at = start;
+        for g in 0..self.gates {
+            let own = self.inputs + g;
+            let gate = line::read_gate(text, at, own, &mut self.ops[4 * g..4 * g + 4]);
+            let Ok(k) = gate else {
+                return gate;
+            };
+            self.counts[g] = k as u8;
+            at += 4 * k + 3;
+        }
+        Ok(at)
     }
-    Answer::Given(at)
-}
 
-// The outputs' lines from a place on: the outputs stored. The answer is the place after them.
-pub(crate) fn read_outputs(
-    text: &[u8],
-    start: usize,
-    inputs: usize,
-    gates: usize,
-    outputs: usize,
-    outs: &mut [u16; 64],
-) -> Answer
-    requires { (start ≤ length text.now) × (inputs ≤ 64) × (gates ≤ 512) × (outputs ≤ 64) × (length outs.old ≡ 64) }
-    ensures { OutputsRead text.now start inputs gates outputs outs.new result }
-{
-    let mut place = start;
-    let mut k = 0;
-    while k < outputs {
-        let a = line::read_output(text, place, inputs, gates);
-        let Answer::Given(s) = a else {
-            return a;
-        };
-        outs[k] = s as u16;
-        place += 7;
-        k += 1;
+    // The outputs' lines from a place on: the outputs stored. The answer is the place after them.
+    pub(crate) fn read_outputs(&mut self, text: &[u8], start: usize) -> Result<usize, Refusal>
+        requires { (start ≤ length text.now) × (self.old.inputs ≤ 64) × (self.old.gates ≤ 512) × (self.old.outputs ≤ 64) }
+        ensures means { part text.now (λ _. from self.new.outs 0 self.new.outputs) (λ at. at) result ≡ output_lines text.now start self.new }
+        ensures inside { IfOk result (λ at. at ≤ length text.now) }
+        ensures kept { self.new ≡ record self.old { outs = self.new.outs } }
+    {
+        let mut place = start;
+        for k in 0..self.outputs {
+            let output = line::read_output(text, place, self);
+            let Ok(s) = output else {
+                return Err(output.unwrap_err());
+            };
+            self.outs[k] = s;
+            place += 7;
+        }
+        Ok(place)
     }
-    Answer::Given(place)
 }

@@ -1,16 +1,14 @@
 // The netlist reader: a netlist's text into flat arrays.
 #![tactic(auto)]
 
-ghost use Rattle.std.specs.Prelude.{◌≡◌, length};
+ghost use Rattle.std.specs.Prelude.{◌≡◌, ◌<◌, ◌≤◌, get_or};
 ghost use Rattle.rules.specs.Form.{form01};
 ghost use Rattle.rules.specs.Netlist.{netlist_lines, netlist_of, well_formed};
 ghost use Rattle.rules.specs.Calls.{tail_outcome};
-ghost use Rattle.netlist.specs.Flat.{netlist_in, part_of, reading_of, first_of, formed_of, front_of, Judged};
-ghost use Rattle.netlist.specs.Steps.{refusal_in};
+ghost use Rattle.netlist.specs.Flat.{from, gate_in, netlist_in, part_of, reading_of, formed_of, front_of};
 ghost use Rattle.netlist.specs.Well.{WellFlat};
 
-use line::Head;
-use rules::{Answer, Refusal};
+use rules::Refusal;
 
 mod body;
 pub mod keys;
@@ -29,172 +27,100 @@ pub struct Netlist {
     pub outs: [u16; 64],
 }
 
-// What reading answers: the refusal, number 0 where there is none, beside the netlist and the place after its last output line.
+// The netlist that a text begins with, and the place after its last output line.
 #[derive(Clone, Copy)]
-pub struct Reading {
-    pub refusal: Refusal,
-    pub tail: usize,
+pub struct Front {
     pub netlist: Netlist,
+    pub tail: usize,
 }
 
-fn no_ops() -> [u16; 2048]
-    ensures { length result ≡ 2048 }
-{
-    [0; 2048]
-}
-
-fn no_counts() -> [u8; 512]
-    ensures { length result ≡ 512 }
-{
-    [0; 512]
-}
-
-fn no_outs() -> [u16; 64]
-    ensures { length result ≡ 64 }
-{
-    [0; 64]
-}
-
-// A reading that was refused: no netlist, and the place at the text's end.
-fn refused(refusal: Refusal, tail: usize) -> Reading
-    ensures { result.refusal ≡ refusal }
-{
-    let netlist = Netlist {
-        inputs: 0,
-        gates: 0,
-        outputs: 0,
-        ops: no_ops(),
-        counts: no_counts(),
-        outs: no_outs(),
-    };
-    Reading {
-        refusal,
-        tail,
-        netlist,
+impl Netlist {
+    // The operands of gate g.
+    #[tactic(auto, using(crate::proofs::Arrays::range_is), unfolding(crate::specs::Flat::gate_in))]
+    pub fn operands(&self, g: usize) -> &[u16]
+        requires { (g < 512) × (get_or self.now.counts g 0 ≤ 4) }
+        ensures { result.now ≡ gate_in self.now.ops self.now.counts g }
+    {
+        let start = 4 * g;
+        let end = start + usize::from(self.counts[g]);
+        &self.ops[start..end]
     }
-}
 
-// The refusal of an answer that is one.
-fn refusal(a: Answer) -> Refusal
-    ensures { result ≡ refusal_in a }
-{
-    match a {
-        Answer::Given(_) => Refusal { number: 0 },
-        Answer::Refused(r) => r,
+    // The outputs, as they stand in the text.
+    #[tactic(auto, using(crate::proofs::Arrays::front_is))]
+    pub fn output_list(&self) -> &[u16]
+        requires { self.now.outputs ≤ 64 }
+        ensures { result.now ≡ from self.now.outs 0 self.now.outputs }
+    {
+        &self.outs[..self.outputs]
     }
 }
 
 // The lines of a netlist: 1 to 5. What follows the last output line is not looked at.
-pub fn read_lines(text: &[u8]) -> Reading
+#[tactic(auto, using(crate::proofs::Whole::no_head_read))]
+pub fn read_lines(text: &[u8]) -> Result<Front, Refusal>
     ensures { part_of text.now result ≡ netlist_lines form01 text.now }
 {
-    let h = line::read_head(text);
-    let Head::Of {
-        inputs,
-        gates,
-        outputs,
-    } = h
-    else {
-        return refused(line::refusal(h), text.len());
+    let first = line::read_head(text);
+    let Ok(head) = first else {
+        return Err(first.unwrap_err());
     };
-    let mut ops = no_ops();
-    let mut counts = no_counts();
-    let mut outs = no_outs();
-    let a = body::read_gates(text, 11, inputs, gates, &mut ops, &mut counts);
-    let Answer::Given(middle) = a else {
-        return refused(refusal(a), text.len());
+    let mut netlist = Netlist {
+        inputs: head.inputs,
+        gates: head.gates,
+        outputs: head.outputs,
+        ops: [0; 2048],
+        counts: [0; 512],
+        outs: [0; 64],
     };
-    let b = body::read_outputs(text, middle, inputs, gates, outputs, &mut outs);
-    let Answer::Given(tail) = b else {
-        return refused(refusal(b), text.len());
-    };
-    let netlist = Netlist {
-        inputs,
-        gates,
-        outputs,
-        ops,
-        counts,
-        outs,
-    };
-    Reading {
-        refusal: Refusal { number: 0 },
-        tail,
-        netlist,
-    }
+    let middle = netlist.read_gates(text, 11)?;
+    let tail = netlist.read_outputs(text, middle)?;
+    Ok(Front { netlist, tail })
 }
 
 // The part of the text that follows the last output line; where a line gives 1 to 5, the empty part at the text's end.
+#[tactic(auto, using(crate::proofs::Whole::tail_none, crate::proofs::Whole::tail_read))]
 pub fn tail(text: &[u8]) -> &[u8]
     ensures { result.now ≡ tail_outcome text.now }
 {
-    let r = read_lines(text);
-    let number = r.refusal.number;
-    if number != 0 {
-        return slices::rest8(text, text.len());
+    match read_lines(text) {
+        Ok(front) => slices::rest(text, front.tail),
+        Err(_) => slices::rest(text, text.len()),
     }
-    slices::rest8(text, r.tail)
 }
 
-// 6 goes before 7; number 0 where there is none.
-fn first_of(used: bool, twins: bool) -> Refusal
-    ensures { result ≡ first_of used twins }
+// Of a netlist whose lines read well: 6, then 7.
+#[tactic(auto, using(crate::proofs::Entry::formed_rules))]
+fn well_formed(n: &Netlist) -> Result<(), Refusal>
+    requires { WellFlat n.now }
+    ensures { formed_of n.now result ≡ well_formed (netlist_in n.now) }
 {
-    if !used {
-        return Refusal { number: 6 };
+    if !used::all_used(n) {
+        return Err(Refusal::Unused);
     }
-    if twins {
-        return Refusal { number: 7 };
+    if twins::any_twins(n) {
+        return Err(Refusal::Twins);
     }
-    Refusal { number: 0 }
-}
-
-// The refusal of a netlist whose lines read well.
-fn well_formed(n: Netlist) -> Refusal
-    requires { WellFlat n }
-    ensures { formed_of result (netlist_in n) ≡ well_formed (netlist_in n) }
-{
-    first_of(used::all_used(n), twins::any_twins(n))
-}
-
-// A reading of lines, with 6 and 7 asked of its netlist.
-fn judged(r: Reading) -> Reading
-    requires { WellFlat r.netlist }
-    ensures { Judged r result }
-{
-    let tail = r.tail;
-    let netlist = r.netlist;
-    let refusal = well_formed(netlist);
-    Reading {
-        refusal,
-        tail,
-        netlist,
-    }
+    Ok(())
 }
 
 // The netlist that a text begins with, whatever follows its last output line: 1 to 5, then 6, then 7.
-pub fn read_front(text: &[u8]) -> Reading
+#[tactic(auto, using(crate::proofs::Entry::front_rules))]
+pub fn read_front(text: &[u8]) -> Result<Front, Refusal>
     ensures { part_of text.now result ≡ front_of text.now }
 {
-    let r = read_lines(text);
-    let number = r.refusal.number;
-    if number != 0 {
-        return r;
-    }
-    judged(r)
+    let front = read_lines(text)?;
+    well_formed(&front.netlist)?;
+    Ok(front)
 }
 
 // The netlist that is the whole text: 1 to 5, then a line too many (2 or 1), then 6, then 7.
-pub fn read(text: &[u8]) -> Reading
+#[tactic(auto, using(crate::proofs::Entry::read_rules))]
+pub fn read(text: &[u8]) -> Result<Netlist, Refusal>
     ensures { reading_of result ≡ netlist_of form01 text.now }
 {
-    let r = read_lines(text);
-    let number = r.refusal.number;
-    if number != 0 {
-        return r;
-    }
-    let a = lines::ends(text, r.tail);
-    let Answer::Given(_) = a else {
-        return refused(refusal(a), text.len());
-    };
-    judged(r)
+    let front = read_lines(text)?;
+    lines::ends(text, front.tail)?;
+    well_formed(&front.netlist)?;
+    Ok(front.netlist)
 }

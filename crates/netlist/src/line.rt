@@ -1,197 +1,149 @@
 // One line of a netlist at a place: its head, a gate, an output.
-ghost use Rattle.std.specs.Prelude.{◌≡◌, ◌+◌, ◌*◌, ◌<◌, ◌≤◌, ltb, length};
-ghost use Rattle.std.proofs.lemmas.List.Edits.{sets};
-ghost use Rattle.rules.specs.Basics.{all, ascending};
+ghost use Rattle.std.specs.Prelude.{◌≡◌, ◌+◌, ◌*◌, ◌≤◌, ltb, leb, ◌&&◌, length, take, IfOk};
+ghost use Rattle.rules.specs.Basics.{within, all, ascending};
 ghost use Rattle.lines.specs.Line.{words_from};
-ghost use Rattle.netlist.specs.Flat.{from};
-ghost use Rattle.netlist.specs.Steps.{HeadRead, head_numbers, OperandsRead, GateRead, OutputRead, head_refusal};
+ghost use Rattle.netlist.specs.Steps.{part, head_in, head_line, HeadFits, operands_line, OperandsFit, gate_line, output_line};
 
-use lines::Line;
-use rules::{Answer, Refusal};
+use crate::Netlist;
+use lines::kind::Kind;
+use rules::Refusal;
 
-// A head's numbers, or the refusal.
+// A head's numbers.
 #[derive(Clone, Copy)]
-pub enum Head {
-    Of {
-        inputs: usize,
-        gates: usize,
-        outputs: usize,
-    },
-    Refused(Refusal),
+pub(crate) struct Head {
+    pub(crate) inputs: usize,
+    pub(crate) gates: usize,
+    pub(crate) outputs: usize,
 }
 
-// The refusal of a head that is none.
-pub(crate) fn refusal(h: Head) -> Refusal
-    ensures { result ≡ head_refusal h }
-{
-    match h {
-        Head::Of {
-            inputs: _,
-            gates: _,
-            outputs: _,
-        } => Refusal { number: 0 },
-        Head::Refused(r) => r,
-    }
-}
-
-// A head's numbers against the limits: 3.
-fn head_numbers(inputs: usize, gates: usize, outputs: usize) -> Head
-    ensures { result ≡ head_numbers inputs gates outputs }
-{
-    if !lines::is_within(1, 64, inputs) {
-        return Head::Refused(Refusal { number: 3 });
-    }
-    if !lines::is_within(1, 512, gates) {
-        return Head::Refused(Refusal { number: 3 });
-    }
-    if !lines::is_within(1, 64, outputs) {
-        return Head::Refused(Refusal { number: 3 });
-    }
-    Head::Of {
-        inputs,
-        gates,
-        outputs,
+impl Head {
+    // Whether the numbers are within their limits.
+    fn fits(&self) -> bool
+        ensures { result ≡ (within 1 64 self.now.inputs && within 1 512 self.now.gates && within 1 64 self.now.outputs) }
+    {
+        (1..=64).contains(&self.inputs)
+            && (1..=512).contains(&self.gates)
+            && (1..=64).contains(&self.outputs)
     }
 }
 
 // The netlist's head: 1, 2, 3.
-pub(crate) fn read_head(text: &[u8]) -> Head
-    ensures { HeadRead text.now result }
+#[tactic(auto, using(crate::proofs::HeadLine::head_rules))]
+pub(crate) fn read_head(text: &[u8]) -> Result<Head, Refusal>
+    ensures means { part text.now head_in (λ _. 11) result ≡ head_line text.now }
+    ensures fits { IfOk result (HeadFits text.now) }
 {
     let l = lines::read_line(text, 0);
-    let Line::Frame(n) = l else {
-        return Head::Refused(lines::refusal(l));
+    let Ok(n) = l else {
+        return Err(l.unwrap_err());
     };
-    if lines::byte_at(text, 0) != 1 {
-        return Head::Refused(Refusal { number: 2 });
+    if lines::byte_at(text, 0) != Kind::Netlist as usize || n != 10 {
+        return Err(Refusal::WrongFrame);
     }
-    if n != 10 {
-        return Head::Refused(Refusal { number: 2 });
+    let head = Head {
+        inputs: lines::byte_at(text, 2),
+        gates: lines::word_at(text, 4),
+        outputs: lines::byte_at(text, 8),
+    };
+    if !head.fits() {
+        return Err(Refusal::HeadNumber);
     }
-    head_numbers(
-        lines::byte_at(text, 2),
-        lines::word_at(text, 4),
-        lines::byte_at(text, 8),
-    )
+    Ok(head)
 }
 
 // How many operands a gate's line names: 1, 2.
-fn operands(text: &[u8], at: usize) -> Answer
-    ensures { OperandsRead text.now at result }
+#[tactic(auto, using(crate::proofs::OneLine::operand_rules))]
+fn operands(text: &[u8], at: usize) -> Result<usize, Refusal>
+    ensures means { part text.now (words_from text.now (at + 2)) (λ k. at + 4 * k + 3) result ≡ operands_line text.now at }
+    ensures fits { IfOk result (OperandsFit text.now at) }
 {
     let l = lines::read_line(text, at);
-    let Line::Frame(n) = l else {
-        return Answer::Refused(lines::refusal(l));
+    let Ok(n) = l else {
+        return l;
     };
-    if lines::byte_at(text, at) != 2 {
-        return Answer::Refused(Refusal { number: 2 });
+    if lines::byte_at(text, at) != Kind::Gate as usize || n % 4 != 2 || n < 6 || 18 < n {
+        return Err(Refusal::WrongFrame);
     }
-    if n % 4 != 2 {
-        return Answer::Refused(Refusal { number: 2 });
-    }
-    if n < 6 {
-        return Answer::Refused(Refusal { number: 2 });
-    }
-    if 18 < n {
-        return Answer::Refused(Refusal { number: 2 });
-    }
-    Answer::Given(n / 4)
+    Ok(n / 4)
 }
 
-// The k words from a place of the text on, stored from a place of the operands on.
-fn store(text: &[u8], at: usize, k: usize, ops: &mut [u16; 2048], place: usize)
-    requires { (k ≤ 4) × (at + 4 * k ≤ length text.now) × (place + k ≤ 2048) }
-    ensures { ops.new ≡ sets ops.old place (words_from text.now at k) }
+// The words from a place of the text on, one for each operand.
+#[tactic(auto, using(lines::proofs::Laws::word_small, crate::proofs::OneLine::words_stand))]
+fn store(text: &[u8], at: usize, os: &mut [u16])
+    requires { at + 4 * length os.old ≤ length text.now }
+    ensures { os.new ≡ words_from text.now at (length os.old) }
 {
-    let mut j = 0;
-    while j < k {
-        ops[place + j] = lines::word_at(text, at + 4 * j) as u16;
-        j += 1;
+    for (k, o) in os.iter_mut().enumerate() {
+        *o = lines::word_at(text, at + 4 * k) as u16;
     }
 }
 
-fn wide(x: u16) -> usize
-    ensures { result ≡ x }
+// Whether a gate's operands are lower than its own signal.
+fn lower(os: &[u16], own: usize) -> bool
+    ensures { result ≡ all (λ o. ltb o own) os.now }
 {
-    x as usize
+    os.iter().all(|&o| usize::from(o) < own)
 }
 
-// Whether the k operands from a place on are lower than their reader.
-fn lower(ops: &[u16; 2048], place: usize, k: usize, own: usize) -> bool
-    requires { place + k ≤ 2048 }
-    ensures { result ≡ all (λ o. ltb o own) (from ops.now place k) }
+// Whether a gate's operands ascend strictly.
+fn ascend(os: &[u16]) -> bool
+    ensures { result ≡ ascending os.now }
 {
-    let mut j = 0;
-    while j < k {
-        if own <= wide(ops[place + j]) {
-            return false;
-        }
-        j += 1;
-    }
-    true
+    os.is_sorted_by(|a, b| a < b)
 }
 
-// Whether the k operands from a place on ascend strictly.
-fn ascend(ops: &[u16; 2048], place: usize, k: usize) -> bool
-    requires { place + k ≤ 2048 }
-    ensures { result ≡ ascending (from ops.now place k) }
-{
-    let mut j = 0;
-    while j + 1 < k {
-        if ops[place + j + 1] <= ops[place + j] {
-            return false;
-        }
-        j += 1;
-    }
-    true
-}
-
-// The line of gate g, which is the signal own: its operands stored, its answer their number; 1, 2, 4, 5.
+// The line of the gate that is the signal own: its operands at the front of their room, its answer their number; 1, 2, 4, 5.
+#[tactic(auto, using(crate::proofs::OneGate::gate_none, crate::proofs::OneGate::gate_good))]
 pub(crate) fn read_gate(
     text: &[u8],
     at: usize,
     own: usize,
-    ops: &mut [u16; 2048],
-    g: usize,
-) -> Answer
-    requires { (g < 512) × (length ops.old ≡ 2048) }
-    ensures { GateRead text.now at own g ops.old ops.new result }
+    room: &mut [u16],
+) -> Result<usize, Refusal>
+    requires { length room.old ≡ 4 }
+    ensures means { part text.now (λ k. take k room.new) (λ k. at + 4 * k + 3) result ≡ gate_line text.now at own }
+    ensures fits { IfOk result (OperandsFit text.now at) }
 {
-    let a = operands(text, at);
-    let Answer::Given(k) = a else {
-        return a;
+    let named = operands(text, at);
+    let Ok(k) = named else {
+        return named;
     };
-    store(text, at + 2, k, ops, 4 * g);
-    if !lower(ops, 4 * g, k, own) {
-        return Answer::Refused(Refusal { number: 4 });
+    let os = &mut room[..k];
+    store(text, at + 2, os);
+    if !lower(os, own) {
+        return Err(Refusal::WrongSignal);
     }
-    if !ascend(ops, 4 * g, k) {
-        return Answer::Refused(Refusal { number: 5 });
+    if !ascend(os) {
+        return Err(Refusal::NotAscending);
     }
-    a
+    Ok(k)
 }
 
-// An output's line: its answer is the signal; 1, 2, 4.
-pub(crate) fn read_output(text: &[u8], at: usize, inputs: usize, gates: usize) -> Answer
-    requires { (inputs ≤ 64) × (gates ≤ 512) }
-    ensures { OutputRead text.now at inputs gates result }
+// Whether a signal is a gate.
+fn is_gate(n: &Netlist, s: usize) -> bool
+    requires { (n.now.inputs ≤ 64) × (n.now.gates ≤ 512) }
+    ensures { result ≡ (leb n.now.inputs s && ltb s (n.now.inputs + n.now.gates)) }
+{
+    (n.inputs..n.inputs + n.gates).contains(&s)
+}
+
+// An output's line, by the netlist's inputs and gates: its answer is the signal; 1, 2, 4.
+#[tactic(auto, using(crate::proofs::OutputLine::output_rules))]
+pub(crate) fn read_output(text: &[u8], at: usize, n: &Netlist) -> Result<u16, Refusal>
+    requires { (n.now.inputs ≤ 64) × (n.now.gates ≤ 512) }
+    ensures means { part text.now (λ s. s) (λ _. at + 7) result ≡ output_line text.now at n.now }
+    ensures fits { IfOk result (λ _. at + 7 ≤ length text.now) }
 {
     let l = lines::read_line(text, at);
-    let Line::Frame(n) = l else {
-        return Answer::Refused(lines::refusal(l));
+    let Ok(digits) = l else {
+        return Err(l.unwrap_err());
     };
-    if lines::byte_at(text, at) != 3 {
-        return Answer::Refused(Refusal { number: 2 });
-    }
-    if n != 6 {
-        return Answer::Refused(Refusal { number: 2 });
+    if lines::byte_at(text, at) != Kind::Output as usize || digits != 6 {
+        return Err(Refusal::WrongFrame);
     }
     let s = lines::word_at(text, at + 2);
-    if s < inputs {
-        return Answer::Refused(Refusal { number: 4 });
+    if !is_gate(n, s) {
+        return Err(Refusal::WrongSignal);
     }
-    if inputs + gates <= s {
-        return Answer::Refused(Refusal { number: 4 });
-    }
-    Answer::Given(s)
+    Ok(s as u16)
 }

@@ -1,53 +1,44 @@
 // 7: no two gates have the same operand list, and no output stands twice.
-ghost use Rattle.std.specs.Prelude.{◌≡◌};
+ghost use Rattle.std.specs.Prelude.{◌≡◌, ◌<◌, EachIndex, slice_index};
 ghost use Rattle.rules.specs.Basics.{repeats};
 ghost use Rattle.rules.specs.Netlist.{twins};
-ghost use Rattle.netlist.specs.Flat.{from, gates_in, netlist_in, any_twins};
+ghost use Rattle.netlist.specs.Flat.{gates_in, netlist_in, any_twins};
 ghost use Rattle.netlist.specs.Well.{WellFlat};
 
 use crate::Netlist;
 use crate::keys::gate_keys;
-use crate::used::no_marks;
-use slices::{at8, at16, put8};
+use index::Chains;
+use slices::{at, put};
 
 // Whether two gates have the same operand list.
-fn twin_gates(n: Netlist) -> bool
-    requires { WellFlat n }
-    ensures { result ≡ twins (gates_in n.ops n.counts n.gates) }
+fn twin_gates(n: &Netlist) -> bool
+    requires { WellFlat n.now }
+    ensures { result ≡ twins (gates_in n.now.ops n.now.counts n.now.gates) }
 {
-    let gates = n.gates;
     let keys = gate_keys(n);
-    let chains = index::chain(&keys, gates);
-    let next = chains.next;
-    index::twice(&keys, &next, gates)
+    Chains::of(&keys, n.gates).twice(&keys, n.gates)
 }
 
-// Whether an output stands twice.
-fn twin_outputs(n: Netlist) -> bool
-    requires { WellFlat n }
-    ensures { result ≡ repeats (from n.outs 0 n.outputs) }
+// Whether a signal stands twice.
+#[tactic(auto, using(crate::proofs::Alike::repeat_rules))]
+fn repeats(list: &[u16]) -> bool
+    requires { EachIndex list.now (λ k. slice_index list.now k < 576) }
+    ensures { result ≡ repeats list.now }
 {
-    let outputs = n.outputs;
-    let outs = n.outs;
-    let mut seen = no_marks();
-    let mut k = 0;
-    while k < outputs {
-        let o = at16(&outs, k) as usize;
-        if at8(&seen, o) == 1 {
+    let mut seen = [false; 576];
+    for &s in list {
+        let s = usize::from(s);
+        if at(&seen, s, false) {
             return true;
         }
-        put8(&mut seen, o, 1);
-        k += 1;
+        put(&mut seen, s, true);
     }
     false
 }
 
-pub(crate) fn any_twins(n: Netlist) -> bool
-    requires { WellFlat n }
-    ensures { result ≡ any_twins (netlist_in n) }
+pub(crate) fn any_twins(n: &Netlist) -> bool
+    requires { WellFlat n.now }
+    ensures { result ≡ any_twins (netlist_in n.now) }
 {
-    if twin_gates(n) {
-        return true;
-    }
-    twin_outputs(n)
+    twin_gates(n) || repeats(n.output_list())
 }

@@ -1,20 +1,20 @@
 -- Counts of who wants a signal, one by one.
 -- Assumes nothing.
-use Prim.Native.Nat.{ℕ, suc, ◌+◌, ◌-◌, ◌<◌, ◌≤◌}
+use Prim.Native.Nat.{ℕ, suc, ◌+◌, ◌<◌, ◌≤◌}
 use native.Mathlib.Omega.{arith}
+use native.Mathlib.Numerals.{add-one}
 use native.Mathlib.Decide.{ℕ_discrete}
 use mathlib.Core.Path.{◌≡◌, refl, sym, ◌∙◌}
 use mathlib.Core.Bool.{Bool, true, false}
 use mathlib.Core.List.{List, [], ◌∷◌}
 use lib.Dec.{eqb}
 use borrow.Author.Tests.{eq-eqb, ne_eqb}
-use lib.ListN.{get_or, length, set, length-set}
-use lib.Seq.{get_or-set_same, get_or-set_other}
+use lib.ListN.{get_or, length, drop, set, length-set, drop_of_length-le}
+use lib.Seq.{get_or-set_same, get_or-set_other, drop-cons}
 use Rattle.rules.specs.Basics.{pick}
-use Rattle.netlist.specs.Flat.{from}
-use Rattle.order.specs.Sort.{Light}
+use Rattle.order.specs.Tables.{Light}
 use Rattle.order.specs.Wanted.{times, Placed, CountedUp}
-use Rattle.netlist.proofs.Arrays.{length_from, mem-from}
+use Rattle.netlist.proofs.Arrays.{get_or-mem}
 
 -- ---- how often a number stands in a list
 
@@ -46,39 +46,33 @@ module _ (left : List ℕ) (o c v : ℕ) (here : o < length left) (e : c ≡ get
       go (yes q) = rw (q, get_or-set_same left o v 0 here, times_self) (omega (arith, e, f))
       go (no q) = rw (get_or-set_other left o s v 0 q, times_other s o l q)
 
--- ---- the loops: what is left to count leads to the whole
+-- ---- the loop: what is left to count leads to the whole
 
-pub record CountingUp (list : List ℕ) (at n : ℕ) (left₀ left : List ℕ) (k : ℕ) : Type 0 where
-  pub inside : k ≤ n
+pub record CountingUp (list left₀ left : List ℕ) (k : ℕ) : Type 0 where
+  pub inside : k ≤ length list
   pub wide : length left ≡ length left₀
-  pub same : (s : ℕ) → get_or left s 0 + times s (from list (at + k) (n - k)) ≡ get_or left₀ s 0 + times s (from list at n)
+  pub same : (s : ℕ) → get_or left s 0 + times s (drop k list) ≡ get_or left₀ s 0 + times s list
 
-module _ {list : List ℕ} {at n : ℕ} {left₀ : List ℕ} where
-  pub up_start : CountingUp list at n left₀ left₀ 0
-  up_start =
-      let p : at + 0 ≡ at = omega arith in
-      let q : n - 0 ≡ n = omega arith in
-      record { inside = omega arith; wide = refl; same = λ s. rw (p, q) }
+module _ {list left₀ left : List ℕ} {k : ℕ} (w : CountingUp list left₀ left k) where
+  pub up_small : (o : ℕ) → Light left₀ 4000 → length list ≤ 64 → get_or left o 0 ≤ 4064
+  up_small o l h = omega (arith, w.same o, l.all o, times_most o list)
 
-  module _ {left : List ℕ} {k : ℕ} (w : CountingUp list at n left₀ left k) where
-    pub up_small : (o c : ℕ) → Light left₀ 4000 → n ≤ 64 → c ≡ get_or left o 0 → c ≤ 4064
-    up_small o c l h e = omega (arith, e, w.same o, l.all o, times_most o (from list at n), length_from list at n)
+  module _ {o : ℕ} (h : k < length list) (p : Placed list left₀) (e : o ≡ get_or list k 0) where
+    pub up_place : o < length left
+    up_place = omega (arith, e, w.wide, p.inside (get_or list k 0) (get_or-mem list k h))
 
-    pub up_turn : {o c v : ℕ} → k < n → o ≡ get_or list (at + k) 0 → Placed (from list at n) left₀ → c ≡ get_or left o 0 → v ≡ c + 1
-        → CountingUp list at n left₀ (set left o v) (k + 1)
-    unfolding from
-    up_turn {o} {c} {v} h e p f g =
-        let i : n - k ≡ suc (n - (k + 1)) = omega arith in
-        let j : at + (k + 1) ≡ at + k + 1 = omega arith in
-        let here : o < length left = omega (arith, w.wide, p.inside o (rw e (mem-from list at n k h))) in
+    pub up_turn : CountingUp list left₀ (set left o (get_or left o 0 + 1)) (k + 1)
+    up_turn =
+        let d : drop k list ≡ o ∷ drop (suc k) list = rw e (drop-cons list k 0 h) in
         record {
           inside = omega arith;
-          wide = length-set left o v ∙ w.wide;
-          same = λ s. rw j (up_one left o c v here f g s (from list (at + k + 1) (n - (k + 1))) ∙ rw e (rw i at (w.same s)));
+          wide = length-set left o _ ∙ w.wide;
+          same = λ s. rw (add-one k) (up_one left o (get_or left o 0) (get_or left o 0 + 1) up_place refl refl s (drop (suc k) list) ∙ (rw d at (w.same s)));
         }
 
-    pub up_end : n ≤ k → CountedUp (from list at n) left₀ left
-    unfolding from times
-    up_end h =
-        let i : n - k ≡ 0 = omega arith in
-        record { wide = w.wide; is = λ s. let e = w.same s in let z : get_or left s 0 + 0 ≡ get_or left s 0 = omega arith in sym z ∙ (rw i at e) }
+  pub up_end : length list ≤ k → CountedUp list left₀ left
+  unfolding times
+  up_end h = record {
+    wide = w.wide;
+    is = λ s. let z : get_or left s 0 + 0 ≡ get_or left s 0 = omega arith in sym z ∙ (rw (drop_of_length-le list h) at (w.same s));
+  }

@@ -1,11 +1,11 @@
 pub mod Lists
-pub mod Sorting
 pub mod Members
 pub mod Weighing
-pub mod Weighted
 pub mod Marks
-pub mod Walking
 pub mod Counting
 pub mod Readership
-pub mod Orders
 pub mod Bounds
+pub mod Walking
+pub mod Sorting
+pub mod Weighted
+pub mod Orders

@@ -4,23 +4,11 @@ use Prim.Native.Nat.{ℕ}
 use mathlib.Core.Path.{◌≡◌, refl}
 use mathlib.Core.Bool.{Bool, true, false}
 use mathlib.Core.List.{List, [], ◌∷◌}
-use Rattle.rules.specs.Basics.{pick, mem, keep}
+use Rattle.rules.specs.Basics.{pick, mem}
 use Rattle.rules.specs.Weight.{goes_before, insert_by, high_to_low}
-use Rattle.rules.proofs.Laws.{mem-nil, cons_cases, cons_self, cons_more}
+use Rattle.rules.proofs.Laws.{cons_cases, cons_self, cons_more}
 
 -- ---- members of the lists that are sorted
-
-pub mem-keep : (p : ℕ → Bool) (o : ℕ) (l : List ℕ) → mem o (keep p l) ≡ true → (p o ≡ true) × (mem o l ≡ true)
-unfolding keep pick
-mem-keep p o [] e = absurd (mem-nil o e)
-mem-keep p o (a ∷ l) e = go (p a) refl (mem-keep p o l) e
-  where
-    go : (b : Bool) → p a ≡ b → (mem o (keep p l) ≡ true → (p o ≡ true) × (mem o l ≡ true)) → mem o (pick b (a ∷ keep p l) (keep p l)) ≡ true
-        → (p o ≡ true) × (mem o (a ∷ l) ≡ true)
-    go true q ih f =
-        cons_cases ((p o ≡ true) × (mem o (a ∷ l) ≡ true)) o a (keep p l) f
-        (λ h. ((rw h q), (rw h (cons_self a l)))) (λ h. let r = ih h in (r.0, cons_more o a l r.1))
-    go false q ih f = let r = ih f in (r.0, cons_more o a l r.1)
 
 mem-insert : (w : ℕ → ℕ) (o a : ℕ) (l : List ℕ) → mem o (insert_by w a l) ≡ true → mem o (a ∷ l) ≡ true
 unfolding insert_by pick

@@ -1,31 +1,30 @@
 -- The whole order: what the code visits is the rule's order, and that has each gate at most once.
 -- Assumes nothing.
-use Prim.Native.Nat.{ℕ, zero, suc, ◌+◌, ◌-◌, ◌*◌, ◌<◌, ◌≤◌}
+use Prim.Native.Nat.{ℕ, zero, suc, ◌+◌, ◌-◌, ◌<◌, ◌≤◌}
 use native.Mathlib.Omega.{arith}
 use native.Mathlib.Decide.{dec_lt}
-use mathlib.Core.Path.{◌≡◌, refl, sym, ap, ◌∙◌, fun_ext}
+use mathlib.Core.Path.{◌≡◌, refl, ap, ◌∙◌, fun_ext}
 use mathlib.Core.Bool.{Bool, true, false, not}
 use mathlib.Core.List.{List, [], ◌∷◌, ◌++◌}
 use lib.Dec.{eqb}
-use lib.ListN.{get_or, length, take, length-append, length-replicate, get_or-append}
+use lib.ListN.{get_or, length, take, replicate, length-append, get_or-append}
 use lib.Seq.{get_or_at, take-append-le, take_at}
 use Rattle.rules.specs.Basics.{pick, mem, keep, each, upto}
 use Rattle.rules.specs.Netlist.{is_read, gate_signals}
 use Rattle.rules.specs.Weight.{gate_operands, weight_in}
 use Rattle.rules.specs.Order.{visit, visit_order, roots, order}
-use Rattle.rules.proofs.Laws.{mem-nil, cons_cases, cons_self, cons_more}
+use Rattle.rules.proofs.Laws.{mem-nil, cons_self, cons_more}
+use Rattle.rules.proofs.Lists.{keep_mem, upto_in}
 use Rattle.netlist.specs.declared.Netlist.{Netlist}
 use Rattle.netlist.specs.Flat.{from, gates_in, netlist_in}
-use Rattle.order.specs.Sort.{ops_in, zeros, Blank, Light, Room, Visits}
-use Rattle.order.specs.Visit.{ones, Tied, Lower, Steps, unread, order_from, Opened, Ordered, InOrder}
-use Rattle.order.specs.Wanted.{times, waiting, Placed, CountedUp, Readers}
-use Rattle.netlist.proofs.Arrays.{length-gates, get_or-gates, length-gate, from_mem}
+use Rattle.order.specs.Tables.{Visits}
+use Rattle.order.specs.Visit.{ops_in, Lower, Listed, Steps, unread, order_from}
+use Rattle.order.specs.Wanted.{times, Placed, CountedUp, Readers}
+use Rattle.netlist.proofs.Arrays.{length-gates, get_or-gates, from_mem}
 use Rattle.order.specs.Plan.{Fits, is_flat, order_in, wanted_in, Planned}
-use Rattle.order.proofs.Lists.{gates_past}
-use Rattle.order.proofs.Counting.{times_most}
+use Rattle.order.proofs.Lists.{gates_past, replicate-zero}
 use Rattle.order.proofs.Weighing.{mem-gates, operand_low, weights_to, rule_order}
-use Rattle.order.proofs.Weighted.{replicate-zero}
-use Rattle.order.proofs.Members.{mem-keep, mem-sorted}
+use Rattle.order.proofs.Members.{mem-sorted}
 use Rattle.order.proofs.Walking.{keeps_higher, each_keeps}
 use Rattle.order.proofs.Readership.{waiting_read}
 
@@ -106,120 +105,58 @@ module _ {first end : ℕ} where
       go true e v k = w
       go false e v k = steps_snoc (each (λ o x. visit ops a o x) (ops s) d) s v (k ∙ e) p q
 
-mem-upto : (x a k : ℕ) → mem x (upto a k) ≡ true → (a ≤ x) × (x < a + k)
-unfolding upto
-mem-upto x a zero e = absurd (mem-nil x e)
-mem-upto x a (suc k) e =
-    cons_cases ((a ≤ x) × (x < a + suc k)) x a (upto (suc a) k) e
-    (λ h. (omega arith, omega arith)) (λ h. let r = mem-upto x (suc a) k h in (omega (arith, r.0), omega (arith, r.1)))
-
 pub order_steps : (n : Netlist) → Fits n → Steps n.inputs (n.inputs + n.gates) (order (netlist_in n))
 unfolding order roots gate_signals netlist_in
 order_steps n w =
     steps_each (λ g d. visit (visit_order (netlist_in n)) (suc g) g d) (roots (netlist_in n))
     (λ s m d v.
-    let r = mem-upto s n.inputs (length (gates_in n.ops n.counts n.gates)) (mem-keep (λ x. not (is_read (netlist_in n) x)) s (gate_signals (netlist_in n)) m).1 in
+    let r = upto_in n.inputs (length (gates_in n.ops n.counts n.gates)) s (keep_mem (λ x. not (is_read (netlist_in n) x)) (gate_signals (netlist_in n)) s m).0 in
     steps_visit (visit_order (netlist_in n)) (visits_lower n w) (λ x o q. (visits_gate n w x o q).0) (suc s) s d r.0 (omega (arith, r.1, length-gates n.ops n.counts n.gates)) v)
     [] (steps_none n.inputs (n.inputs + n.gates))
 
 -- ---- what the code visits
 
-pub zeros_blank : (n : ℕ) → Blank (zeros n)
-unfolding zeros
-zeros_blank n = record { all = replicate-zero n }
-
-pub zeros_length : (n : ℕ) → length (zeros n) ≡ n
-unfolding zeros
-zeros_length n = length-replicate n 0
-
-ones_zeros : (n : ℕ) → ones (zeros n) ≡ 0
-unfolding zeros ones pick
-ones_zeros zero = refl
-ones_zeros (suc n) = ones_zeros n
-
-pub tied_start : (seq : List ℕ) (n : ℕ) → length seq ≡ n → Blank seq → Tied (zeros n) seq 0
-unfolding mem
-tied_start seq n e b = record { wide = e ∙ sym (zeros_length n); size = sym (ones_zeros n); behind = λ i h. b.all i; mark = λ s h. rw ((zeros_blank n).all s) }
-
-module _ (n : Netlist) {vis cnt : List ℕ} (v : Visits n vis cnt) where
-  same_ops : ops_in vis cnt ≡ visit_order (netlist_in n)
+module _ (n : Netlist) {rows : List (List ℕ)} (v : Visits n rows) where
+  same_ops : ops_in rows ≡ visit_order (netlist_in n)
   same_ops = fun_ext v.same
 
-  pub opened : Fits n → (seq : List ℕ) (k : ℕ) → length seq ≡ k → Blank seq → n.inputs + n.gates ≤ k → k ≤ 65536 → Opened vis cnt (zeros k) seq n.inputs (n.inputs + n.gates)
-  opened w seq k e b h l = record {
-    lower = rw same_ops (visits_lower n w);
-    tied = tied_start seq k e b;
-    room = omega (arith, zeros_length k);
-    small = omega (arith, zeros_length k);
-    inside = omega arith;
-  }
+  pub rows_lower : Fits n → Lower (ops_in rows)
+  rows_lower w = rw same_ops (visits_lower n w)
 
-  pub in_order : {left seq : List ℕ} {r : ℕ} → Readers n left → Ordered (ops_in vis cnt) left seq n.inputs (n.inputs + n.gates) r → InOrder n seq r
+  pub in_order : {left : List ℕ} → Readers n left → order_from (ops_in rows) left n.inputs (n.inputs + n.gates - n.inputs) [] ≡ order (netlist_in n)
   unfolding order_from order roots gate_signals is_read netlist_in
-  in_order {left} {seq} {r} u o =
+  in_order {left} u =
       let e : n.inputs + n.gates - n.inputs ≡ length (gates_in n.ops n.counts n.gates) = omega (arith, length-gates n.ops n.counts n.gates) in
       let q : unread left ≡ (λ s. not (is_read (netlist_in n) s)) =
       fun_ext (λ s. ap (λ x. eqb x 0) (u.is s) ∙ waiting_read n.inputs (gates_in n.ops n.counts n.gates) s) in
-      record {
-        fits = o.fits;
-        behind = o.behind;
-        is = o.is
-            ∙ ap (λ (ops : ℕ → List ℕ). each (λ g d. visit ops (suc g) g d) (keep (unread left) (upto n.inputs (n.inputs + n.gates - n.inputs))) []) same_ops
-            ∙ ap (λ (p : ℕ → Bool). each (λ g d. visit (visit_order (netlist_in n)) (suc g) g d) (keep p (upto n.inputs (n.inputs + n.gates - n.inputs))) []) q
-            ∙ ap (λ (k : ℕ). each (λ g d. visit (visit_order (netlist_in n)) (suc g) g d) (keep (λ s. not (is_read (netlist_in n) s)) (upto n.inputs k)) []) e;
-      }
-
--- zeros are room enough
-pub zeros_room : (n : Netlist) → Fits n → {wts vis cnt : List ℕ} → wts ≡ zeros 576 → vis ≡ zeros 2304 → cnt ≡ zeros 576 → Room n wts vis cnt
-zeros_room n w a b c = record {
-  weights = rw (a, zeros_length) (omega (arith, w.inputs_most, w.gates_most));
-  places = rw (b, zeros_length) (omega (arith, w.inputs_most, w.gates_most));
-  count = rw (c, zeros_length) (omega (arith, w.inputs_most, w.gates_most));
-}
-
-pub blank_is : {l : List ℕ} (n : ℕ) → l ≡ zeros n → Blank l
-blank_is n e = rw e (zeros_blank n)
+      ap (λ (ops : ℕ → List ℕ). each (λ g d. visit ops (suc g) g d) (keep (unread left) (upto n.inputs (n.inputs + n.gates - n.inputs))) []) same_ops
+      ∙ ap (λ (p : ℕ → Bool). each (λ g d. visit (visit_order (netlist_in n)) (suc g) g d) (keep p (upto n.inputs (n.inputs + n.gates - n.inputs))) []) q
+      ∙ ap (λ (k : ℕ). each (λ g d. visit (visit_order (netlist_in n)) (suc g) g d) (keep (λ s. not (is_read (netlist_in n) s)) (upto n.inputs k)) []) e
 
 -- ---- the whole plan
 
 -- past the limits there is nothing
-pub plan_none : (n : Netlist) {seq left : List ℕ} → is_flat n ≡ false → seq ≡ zeros 576 → left ≡ zeros 576 → Planned n (record { count = 0; seq = seq; left = left })
+pub plan_none : (n : Netlist) → is_flat n ≡ false → Planned n (record { count = 0; seq = replicate 576 0; left = replicate 576 0 })
 unfolding order_in wanted_in pick
-plan_none n e b z = record { fits = omega arith; order = rw e; behind = λ i _. rw b ((zeros_blank 576).all i); wanted = λ s. rw (e, z) ((zeros_blank 576).all s) }
+plan_none n e = record { fits = omega arith; order = rw e; behind = λ i _. replicate-zero 576 i; wanted = λ s. rw e (replicate-zero 576 s) }
 
 -- the outputs are wanted too
-pub plan_some : (n : Netlist) {seq left left' : List ℕ} {r : ℕ} → is_flat n ≡ true → length seq ≡ 576 → InOrder n seq r → Readers n left
+pub plan_some : (n : Netlist) {d seq left left' : List ℕ} {r : ℕ} → is_flat n ≡ true → d ≡ order (netlist_in n) → Listed d r seq → Readers n left
     → CountedUp (from n.outs 0 n.outputs) left left' → Planned n (record { count = r; seq = seq; left = left' })
 unfolding order_in wanted_in pick
-plan_some n e l o w c = record {
-  fits = omega (arith, o.fits, l);
-  order = rw e o.is;
-  behind = o.behind;
+plan_some n e o l w c = record {
+  fits = l.fits;
+  order = rw e (l.is ∙ o);
+  behind = l.behind;
   wanted = λ s. rw e (c.is s ∙ ap (λ k. k + times s (from n.outs 0 n.outputs)) (w.is s));
 }
 
--- every count is at most 4 for each gate, and the outputs are signals
-reads_most : (k : ℕ) (gs : List (List ℕ)) (s m : ℕ) → ((j : ℕ) → length (get_or gs j []) ≤ 4) → length gs ≤ m → waiting [] k gs s ≤ 4 * m
-unfolding waiting mem pick
-reads_most k [] s m h l = omega arith
-reads_most k (g ∷ gs) s zero h l = absurd (omega arith)
-reads_most k (g ∷ gs) s (suc m) h l = omega (arith, times_most s g, h 0, reads_most (suc k) gs s m (λ j. h (suc j)) (omega arith))
-
-pub readers_light : (n : Netlist) → Fits n → {left : List ℕ} → Readers n left → Light left 4000
-readers_light n w r = record { all = λ s. rw (r.is s) (omega (arith, reads_most n.inputs (gates_in n.ops n.counts n.gates) s n.gates few (omega (arith, length-gates n.ops n.counts n.gates)), w.gates_most)) }
-  where
-    few : (j : ℕ) → length (get_or (gates_in n.ops n.counts n.gates) j []) ≤ 4
-    few j = go (dec_lt j n.gates)
-      where
-        go : Dec (j < n.gates) → length (get_or (gates_in n.ops n.counts n.gates) j []) ≤ 4
-        go (yes h) = rw (get_or-gates n.ops n.counts n.gates j [] h) (omega (arith, length-gate n.ops n.counts j, w.few j h))
-        go (no h) = rw (gates_past n.ops n.counts n.gates j (omega (arith, h))) (omega arith)
-
-pub outputs_placed : (n : Netlist) → Fits n → (k : ℕ) → k ≤ n.outputs → {left : List ℕ} → length left ≡ 576 → Placed (from n.outs 0 k) left
-outputs_placed n w k h l = record {
+-- the outputs are signals
+pub outputs_placed : (n : Netlist) → Fits n → {left : List ℕ} → length left ≡ 576 → Placed (from n.outs 0 n.outputs) left
+outputs_placed n w l = record {
   inside = λ o m.
-      let r = from_mem n.outs 0 k o m in
+      let r = from_mem n.outs 0 n.outputs o m in
       let z : 0 + r.0 ≡ r.0 = omega arith in
-      let low : o < n.inputs + n.gates = rw (← r.2, z) (w.outputs_low r.0 (omega (arith, r.1))) in
+      let low : o < n.inputs + n.gates = rw (← r.2, z) (w.outputs_low r.0 r.1) in
       omega (arith, low, l, w.inputs_most, w.gates_most);
 }

@@ -8,19 +8,19 @@ use mathlib.Core.Bool.{Bool, true, false, ◌&&◌, ◌||◌, not}
 use mathlib.Core.List.{List, [], ◌∷◌, ◌++◌}
 use lib.Dec.{eqb}
 use borrow.Author.Tests.{ne_eqb}
-use lib.ListN.{get_or, length}
+use lib.ListN.{get_or, length, replicate, length-replicate}
 use Rattle.rules.specs.Basics.{pick, mem, any}
 use Rattle.rules.specs.Cells.{served}
 use Rattle.rules.proofs.Laws.{snoc_self}
 use Rattle.netlist.specs.declared.Netlist.{Netlist}
-use Rattle.netlist.specs.Flat.{from, gate_in, gates_in}
-use Rattle.netlist.proofs.Arrays.{length_from}
+use Rattle.netlist.specs.Flat.{gate_in, gates_in}
 use Rattle.order.specs.Plan.{Fits}
-use Rattle.order.specs.Sort.{Blank, Light}
+use Rattle.order.specs.Tables.{Light}
 use Rattle.order.specs.Wanted.{times, waiting, Placed, CountedUp, Readers}
 use Rattle.order.proofs.Marks.{mem-other}
 use Rattle.order.proofs.Counting.{times_most}
-use Rattle.order.proofs.Weighing.{operand_low}
+use Rattle.order.proofs.Weighing.{few_operands, operand_low}
+use Rattle.order.proofs.Lists.{replicate-zero}
 
 -- ---- zero or not
 
@@ -74,7 +74,7 @@ waiting_served done k (g ∷ gs) s =
 
 -- no gate reads it
 pub waiting_read : (k : ℕ) (gs : List (List ℕ)) (s : ℕ) → eqb (waiting [] k gs s) 0 ≡ not (any (mem s) gs)
-unfolding waiting any mem pick
+unfolding waiting mem pick
 waiting_read k [] s = refl
 waiting_read k (g ∷ gs) s = zero_sum (times s g) (waiting [] (suc k) gs s) ∙ rw (times_none s g, waiting_read (suc k) gs s) (go (mem s g) (any (mem s) gs))
   where
@@ -107,34 +107,33 @@ waiting_less done k (g ∷ gs) s (suc j) h e =
 
 -- ---- the loop over the gates
 
-pub record Reading (ops counts left₀ left : List ℕ) (gates g : ℕ) : Type 0 where
+pub record Reading (ops counts left : List ℕ) (gates g : ℕ) : Type 0 where
   pub inside : g ≤ gates
-  pub wide : length left ≡ length left₀
+  pub wide : length left ≡ 576
   pub light : Light left (4 * g)
   pub is : (s : ℕ) → get_or left s 0 ≡ waiting [] 0 (gates_in ops counts g) s
 
-pub reading_start : {ops counts left : List ℕ} {gates : ℕ} → Blank left → Reading ops counts left left gates 0
+pub reading_start : {ops counts left : List ℕ} {gates : ℕ} → left ≡ replicate 576 0 → Reading ops counts left gates 0
 unfolding waiting gates_in
-reading_start b = record { inside = omega arith; wide = refl; light = record { all = λ i. omega (arith, b.all i) }; is = b.all }
+reading_start {left = left} e =
+    let b : (i : ℕ) → get_or left i 0 ≡ 0 = λ i. rw e (replicate-zero 576 i) in
+    record { inside = omega arith; wide = rw e (length-replicate {A = ℕ} 576 0); light = record { all = λ i. omega (arith, b i) }; is = b }
 
--- a gate's operands have a place in a table of all signals
-pub operands_placed : (n : Netlist) → Fits n → (g : ℕ) → g < n.gates → (left : List ℕ) → n.inputs + n.gates ≤ length left
-    → Placed (from n.ops (4 * g) (get_or n.counts g 0)) left
-unfolding gate_in
-operands_placed n w g h left l = record { inside = go }
-  where
-    go : (o : ℕ) → mem o (gate_in n.ops n.counts g) ≡ true → o < length left
-    go o m = omega (arith, operand_low n w g o h m)
+pub reading_light : (n : Netlist) → Fits n → {left : List ℕ} {g : ℕ} → Reading n.ops n.counts left n.gates g → Light left 4000
+reading_light n w r = record { all = λ i. omega (arith, r.light.all i, r.inside, w.gates_most) }
 
-pub reading_turn : (n : Netlist) → Fits n → {left₀ left left' : List ℕ} {g k : ℕ} → Reading n.ops n.counts left₀ left n.gates g → g < n.gates
-    → k ≡ get_or n.counts g 0 → CountedUp (from n.ops (4 * g) k) left left' → Reading n.ops n.counts left₀ left' n.gates (g + 1)
-unfolding gates_in gate_in
-reading_turn n w {left = left} {left' = left'} {g = g} {k = k} r h e c = record {
-  inside = omega arith;
-  wide = c.wide ∙ r.wide;
-  light = record { all = λ i. omega (arith, c.is i, r.light.all i, times_most i (from n.ops (4 * g) k), length_from n.ops (4 * g) k, e, w.few g h) };
-  is = λ s. c.is s ∙ rw (add-one g, waiting_snoc 0 (gates_in n.ops n.counts g) (from n.ops (4 * g) (get_or n.counts g 0)) s, r.is s, e);
-}
+module _ (n : Netlist) (w : Fits n) {left : List ℕ} {g : ℕ} (r : Reading n.ops n.counts left n.gates g) (h : g < n.gates) where
+  pub operands_placed : Placed (gate_in n.ops n.counts g) left
+  operands_placed = record { inside = λ o m. omega (arith, r.wide, operand_low n w g o h m, w.inputs_most, w.gates_most) }
 
-pub reading_end : (n : Netlist) → {left₀ left : List ℕ} {g : ℕ} → Reading n.ops n.counts left₀ left n.gates g → n.gates ≤ g → Readers n left
-reading_end n {left = left} {g = g} r h = let e : g ≡ n.gates = omega (arith, r.inside) in record { is = λ s. rw (← e) (r.is s ∙ waiting_from 0 n.inputs (gates_in n.ops n.counts g) s) }
+  pub reading_turn : {left' : List ℕ} → CountedUp (gate_in n.ops n.counts g) left left' → Reading n.ops n.counts left' n.gates (g + 1)
+  unfolding gates_in
+  reading_turn c = record {
+    inside = omega arith;
+    wide = c.wide ∙ r.wide;
+    light = record { all = λ i. omega (arith, c.is i, r.light.all i, times_most i (gate_in n.ops n.counts g), few_operands n w g h) };
+    is = λ s. c.is s ∙ rw (add-one g, waiting_snoc 0 (gates_in n.ops n.counts g) (gate_in n.ops n.counts g) s, r.is s);
+  }
+
+pub reading_end : (n : Netlist) → {left : List ℕ} {g : ℕ} → Reading n.ops n.counts left n.gates g → n.gates ≤ g → Readers n left
+reading_end n {g = g} r h = let e : g ≡ n.gates = omega (arith, r.inside) in record { is = λ s. rw (← e) (r.is s ∙ waiting_from 0 n.inputs (gates_in n.ops n.counts g) s) }

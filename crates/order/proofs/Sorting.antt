@@ -1,157 +1,145 @@
--- Where a signal goes among the others, the shift of those behind it, the loop of the sort, and the loop of a weight.
+-- Where a signal goes among the others, those behind it one place up, and the loops of the sort and of a weight.
 -- Assumes nothing.
-use Prim.Native.Nat.{ℕ, zero, suc, ◌+◌, ◌-◌, ◌<◌, ◌≤◌}
+use Prim.Native.Nat.{ℕ, suc, ◌+◌, ◌-◌, ◌<◌, ◌≤◌}
 use native.Mathlib.Omega.{arith}
-use native.Mathlib.Numerals.{add-one}
+use native.Mathlib.Decide.{dec_lt}
+use native.Mathlib.Numerals.{add-one, one-add}
 use mathlib.Core.Path.{◌≡◌, refl, sym, ap, ◌∙◌}
-use mathlib.Core.Bool.{Bool, true, false}
+use mathlib.Core.Bool.{Bool, true, false, cond, not}
 use mathlib.Core.List.{List, [], ◌∷◌, ◌++◌}
-use lib.Dec.{leb, ltb}
-use borrow.Author.Tests.{lt-ltb, le-ltb, eq-eqb, ne_eqb}
-use lib.ListN.{get_or, length, take, drop, set, length-drop, length-append, drop_of_length-le}
-use lib.Seq.{sets-eq, drop-cons, drop-set-lt, length-take-le, get_or-take, take-take, take_at, take-nil}
+use lib.Dec.{leb}
+use borrow.Author.Tests.{lt-ltb, le-ltb, le-leb, lt-leb}
+use lib.ListN.{get_or, length, take, drop, set, length-append, length-drop, drop_of_length-le}
+use lib.Seq.{drop-cons, length-take-le, take-take, take-set-lt, take-suc-set, append_snoc}
+use Rattle.std.specs.List.{position, position_or_len, copy_within}
+use Rattle.std.specs.Option.{unwrap_or}
+use Rattle.std.specs.Ordering.{nat_cmp, ord_max}
+use Rattle.std.proofs.lemmas.Bool.Decides.{nat_tests}
+use Rattle.std.proofs.lemmas.List.{append-nil, drop-take, set-append_left}
+use Rattle.std.proofs.lemmas.List.Edits.{take-paste}
+use Rattle.std.proofs.lemmas.List.Sums.{prefix_len-le-length}
 use Rattle.rules.specs.Basics.{pick, keep, larger}
 use Rattle.rules.specs.Weight.{goes_before, insert_by, high_to_low, gate_operands, largest_sum, weight_from}
-use Rattle.netlist.specs.Flat.{from}
-use Rattle.order.specs.declared.weights.Four.{Four}
-use Rattle.order.specs.Sort.{list_of, place_of, shifted_at, Added, Sorted}
 
--- ---- which of two goes before the other, by their weights v and u
+-- ---- the place of a signal, and the list with the signal there
 
-module _ (w : ℕ → ℕ) (a b v u : ℕ) (e : v ≡ w a) (f : u ≡ w b) where
-  pub heavier_first : u < v → true ≡ goes_before w a b
-  heavier_first h = rw (← e, ← f, lt-ltb u v h)
+module _ (w : ℕ → ℕ) (x : ℕ) where
+  abbrev place : List ℕ → ℕ
+  place l = position_or_len (goes_before w x) l
 
-  pub lighter_last : v < u → false ≡ goes_before w a b
-  lighter_last h = rw (← e, ← f, le-ltb u v (omega arith), ne_eqb v u (λ q. omega arith))
+  place_least : (l : List ℕ) → place l ≤ length l
+  place_least l = prefix_len-le-length (λ y. not (goes_before w x y)) l
 
-  pub equal_by_number : v ≤ u → u ≤ v → ltb a b ≡ goes_before w a b
-  equal_by_number h k = rw (← e, ← f, le-ltb u v h, eq-eqb v u (omega arith))
-
--- ---- the place of a signal
-
-module _ (w : ℕ → ℕ) (x : ℕ) (a : List ℕ) (n p : ℕ) (room : n ≤ length a) where
-  split : p < n → drop p (take n a) ≡ get_or a p 0 ∷ drop (p + 1) (take n a)
-  split h =
-      let l : p < length (take n a) = omega (arith, length-take-le n a room) in
-      rw (add-one p, drop-cons (take n a) p 0 l, get_or-take n a p 0 h)
-
-  pub place_stop : p < n → goes_before w x (get_or a p 0) ≡ true → p + place_of w x (drop p (take n a)) ≡ p
-  unfolding place_of pick
-  place_stop h t = rw (split h, t) (omega arith)
-
-  pub place_more : p < n → goes_before w x (get_or a p 0) ≡ false → p + place_of w x (drop p (take n a)) ≡ (p + 1) + place_of w x (drop (p + 1) (take n a))
-  unfolding place_of pick
-  place_more h t = rw (split h, t) (omega arith)
-
-  pub place_end : n ≤ p → p + place_of w x (drop p (take n a)) ≡ p
-  unfolding place_of
-  place_end h =
-      let l : length (take n a) ≤ p = omega (arith, length-take-le n a room) in
-      rw (drop_of_length-le (take n a) l) (omega arith)
-
--- ---- the shift
-
-pub shift_turn : (a : List ℕ) (n i c : ℕ) → n ≤ length a → i < n → shifted_at (set a i c) n (i + 1) (get_or a i 0) ≡ shifted_at a n i c
-shift_turn a n i c room h =
-    let l : i < length a = omega arith in
-    let e : n - i ≡ suc (n - (i + 1)) = omega arith in
-    rw (e, drop-cons a i 0 l, add-one i, drop-set-lt (suc i) a i c (omega arith))
-
-pub shift_end : (a : List ℕ) (n c : ℕ) → shifted_at a n n c ≡ set a n c
-shift_end a n c = let e : n - n ≡ 0 = omega arith in rw e
-
-insert_at : (w : ℕ → ℕ) (x : ℕ) (l : List ℕ) → insert_by w x l ≡ take (place_of w x l) l ++ (x ∷ drop (place_of w x l) l)
-unfolding insert_by place_of pick
-insert_at w x [] = refl
-insert_at w x (y ∷ l) = go (goes_before w x y) refl (insert_at w x l)
-  where
-    go : (b : Bool) → goes_before w x y ≡ b → insert_by w x l ≡ take (place_of w x l) l ++ (x ∷ drop (place_of w x l) l)
-        → insert_by w x (y ∷ l) ≡ take (place_of w x (y ∷ l)) (y ∷ l) ++ (x ∷ drop (place_of w x (y ∷ l)) (y ∷ l))
-    go true e ih = rw e
-    go false e ih = rw e (ap (λ t. y ∷ t) ih)
-
-drop-take : (p n : ℕ) (a : List ℕ) → p ≤ n → drop p (take n a) ≡ take (n - p) (drop p a)
-drop-take zero n a h = let e : n - 0 ≡ n = omega arith in rw e
-drop-take (suc p) zero a h = absurd (omega arith)
-drop-take (suc p) (suc n) [] h = sym (take-nil (suc n - suc p))
-drop-take (suc p) (suc n) (x ∷ a) h = let e : suc n - suc p ≡ n - p = omega arith in rw e (drop-take p n a (omega arith))
-
--- the array after the shift, as the list of its first n + 1
-pub inserted : (w : ℕ → ℕ) (x : ℕ) (a : List ℕ) (n p : ℕ) → n < length a → p ≤ n → p ≡ place_of w x (take n a)
-    → take (n + 1) (shifted_at a n p x) ≡ insert_by w x (take n a)
-inserted w x a n p room h e =
-    let vs = x ∷ take (n - p) (drop p a) in
-    let k : length vs ≡ suc (n - p) = ap suc (length-take-le (n - p) (drop p a) (omega (arith, length-drop p a))) in
-    let m : length (take p a ++ vs) ≡ n + 1 = length-append (take p a) vs ∙ omega (arith, k, length-take-le p a (omega arith)) in
-    ap (take (n + 1)) (sets-eq vs a p (omega (arith, k))) ∙ take_at (take p a ++ vs) (drop (p + length vs) a) (n + 1) m
-    ∙ sym (insert_at w x (take n a) ∙ rw (← e, take-take p n a h, drop-take p n a h))
-
--- ---- the sort: the operands from j on are in
-
-pub record Sorting (w : ℕ → ℕ) (inputs : ℕ) (ops : List ℕ) (at k : ℕ) (f : Four) (j : ℕ) : Type 0 where
-  pub inside : j ≤ k
-  pub few : f.n + j ≤ k
-  pub same : list_of f ≡ high_to_low w (gate_operands inputs (from ops (at + j) (k - j)))
-
-module _ (w : ℕ → ℕ) (inputs : ℕ) (ops : List ℕ) (at k : ℕ) where
-  pub sorting_start : (f : Four) → f.n ≡ 0 → Sorting w inputs ops at k f k
-  unfolding high_to_low gate_operands keep from
-  sorting_start f h = let e : k - k ≡ 0 = omega arith in record { inside = omega arith; few = omega (arith, h); same = rw (h, e) }
-
-  pub sorting_turn : (f r : Four) (j : ℕ) → 0 < j → Sorting w inputs ops at k f j → Added w inputs f (get_or ops (at + (j - 1)) 0) r
-      → Sorting w inputs ops at k r (j - 1)
-  unfolding high_to_low gate_operands keep from pick
-  sorting_turn f r j h s d =
-      let e : k - (j - 1) ≡ suc (k - j) = omega (arith, s.inside) in
-      let i : at + (j - 1) + 1 ≡ at + j = omega arith in
-      let x = get_or ops (at + (j - 1)) 0 in
-      let l = keep (leb inputs) (from ops (at + j) (k - j)) in
-      record {
-        inside = omega (arith, s.inside);
-        few = omega (arith, s.few, d.size);
-        same = d.is ∙ rw (s.same, e, i) (go (leb inputs x) x l);
-      }
+  place_is : (l : List ℕ) (n : ℕ) → length l ≡ n → unwrap_or (position (goes_before w x) l) n ≡ place l
+  place_is l n e = rw (← e) (go (dec_lt (place l) (length l)))
     where
-      go : (b : Bool) (x : ℕ) (l : List ℕ) → pick b (insert_by w x (high_to_low w l)) (high_to_low w l) ≡ high_to_low w (pick b (x ∷ l) l)
-      go true x l = refl
-      go false x l = refl
+      go : Dec (place l < length l) → unwrap_or (position (goes_before w x) l) (length l) ≡ place l
+      go (yes h) = rw (lt-ltb (place l) (length l) h)
+      go (no h) = rw (le-ltb (place l) (length l) (omega (arith, h))) (omega (arith, h, place_least l))
 
-  pub sorting_end : (f : Four) (j : ℕ) → j ≤ 0 → Sorting w inputs ops at k f j → Sorted (high_to_low w (gate_operands inputs (from ops at k))) k f
-  sorting_end f j h s =
-      let z : j ≡ 0 = omega arith in
-      let i : at + 0 ≡ at = omega arith in
-      let e : k - 0 ≡ k = omega arith in
-      record { few = omega (arith, s.few); is = rw (z, i, e) at s.same }
+  insert_at : (l : List ℕ) → insert_by w x l ≡ take (place l) l ++ (x ∷ drop (place l) l)
+  unfolding insert_by pick
+  insert_at [] = refl
+  insert_at (y ∷ l) = go (goes_before w x y) (insert_at l)
+    where
+      go : (b : Bool) → insert_by w x l ≡ take (place l) l ++ (x ∷ drop (place l) l)
+          → pick b (x ∷ y ∷ l) (y ∷ insert_by w x l) ≡ take (cond (not b) (1 + place l) 0) (y ∷ l) ++ (x ∷ drop (cond (not b) (1 + place l) 0) (y ∷ l))
+      go true ih = refl
+      go false ih = rw one-add (ap (λ t. y ∷ t) ih)
+
+-- the first n numbers of an array, and after those from p on were moved one place up and x was put at p
+moved : (a : List ℕ) (n p x : ℕ) → n < length a → p ≤ n → take (n + 1) (set (copy_within a p n (p + 1)) p x) ≡ take p a ++ (x ∷ take (n - p) (drop p a))
+moved a n p x room h =
+    let e : n + 1 ≡ suc p + (n - p) = omega arith in
+    let l : length (take (suc p) a) ≡ suc p = length-take-le (suc p) a (omega arith) in
+    rw (add-one p, e)
+    (take-set-lt (suc p + (n - p)) _ p x (omega arith)
+    ∙ ap (λ t. set t p x) (take-paste a (suc p) (drop p a) (n - p) (omega arith) (omega (arith, length-drop p a)))
+    ∙ set-append_left (take (suc p) a) (take (n - p) (drop p a)) p x (omega (arith, l))
+    ∙ ap (λ t. t ++ take (n - p) (drop p a)) (sym (take-set-lt (suc p) a p x (omega arith)) ∙ take-suc-set a p x (omega arith))
+    ∙ append_snoc (take p a) x (take (n - p) (drop p a)))
+
+pub inserted : (w : ℕ → ℕ) (x : ℕ) (a : List ℕ) (n p : ℕ) → n < length a → p ≡ unwrap_or (position (goes_before w x) (take n a)) n
+    → take (n + 1) (set (copy_within a p n (p + 1)) p x) ≡ insert_by w x (take n a)
+inserted w x a n p room e =
+    let l : length (take n a) ≡ n = length-take-le n a (omega arith) in
+    let q : p ≡ place w x (take n a) = e ∙ place_is w x (take n a) n l in
+    let h : p ≤ n = omega (arith, q, l, place_least w x (take n a)) in
+    let z : p + (n - p) ≡ n = omega arith in
+    moved a n p x room h ∙ sym (insert_at w x (take n a) ∙ rw (← q, take-take p n a h) (ap (λ t. take p a ++ (x ∷ t)) (rw z at (drop-take p (n - p) a))))
+
+-- ---- the sort: the operands behind those that are left are in
+
+length-insert : (w : ℕ → ℕ) (x : ℕ) (l : List ℕ) → length (insert_by w x l) ≡ suc (length l)
+unfolding insert_by pick
+length-insert w x [] = refl
+length-insert w x (y ∷ l) = go (goes_before w x y) (length-insert w x l)
+  where
+    go : (b : Bool) → length (insert_by w x l) ≡ suc (length l) → length (pick b (x ∷ y ∷ l) (y ∷ insert_by w x l)) ≡ suc (suc (length l))
+    go true e = refl
+    go false e = ap suc e
+
+pub sorted_few : (w : ℕ → ℕ) (inputs : ℕ) (l : List ℕ) → length (high_to_low w (gate_operands inputs l)) ≤ length l
+unfolding high_to_low gate_operands keep pick
+sorted_few w inputs [] = omega arith
+sorted_few w inputs (x ∷ l) = go (leb inputs x) (sorted_few w inputs l)
+  where
+    go : (b : Bool) → length (high_to_low w (keep (leb inputs) l)) ≤ length l → length (high_to_low w (pick b (x ∷ keep (leb inputs) l) (keep (leb inputs) l))) ≤ suc (length l)
+    go true h = omega (arith, length-insert w x (high_to_low w (keep (leb inputs) l)))
+    go false h = omega arith
+
+pub record Sorting (w : ℕ → ℕ) (inputs : ℕ) (os f left : List ℕ) : Type 0 where
+  pub done : List ℕ
+  pub whole : left ++ done ≡ os
+  pub is : f ≡ high_to_low w (gate_operands inputs done)
+
+pub sorting_start : (w : ℕ → ℕ) (inputs : ℕ) (os f left : List ℕ) → f ≡ [] → left ≡ os → Sorting w inputs os f left
+unfolding high_to_low gate_operands keep
+sorting_start w inputs os f left e r = record { done = []; whole = append-nil left ∙ r; is = e }
+
+module _ {w : ℕ → ℕ} {inputs : ℕ} {os f left : List ℕ} (s : Sorting w inputs os f left) (left' : List ℕ) (x : ℕ) (e : left ≡ left' ++ (x ∷ [])) where
+  whole' : left' ++ (x ∷ s.done) ≡ os
+  whole' = sym (append_snoc left' x s.done) ∙ (rw e at s.whole)
+
+  pub sorting_room : length os ≤ 4 → length f < 4
+  sorting_room h = rw s.is (omega (arith, sorted_few w inputs s.done, length-append left' (x ∷ s.done), ap length whole'))
+
+  pub sorting_gate : inputs ≤ x → Sorting w inputs os (insert_by w x f) left'
+  unfolding high_to_low gate_operands keep pick
+  sorting_gate h = record { done = x ∷ s.done; whole = whole'; is = rw (le-leb inputs x h) (ap (insert_by w x) s.is) }
+
+  pub sorting_input : x < inputs → Sorting w inputs os f left'
+  unfolding high_to_low gate_operands keep pick
+  sorting_input h = record { done = x ∷ s.done; whole = whole'; is = rw (lt-leb inputs x h) s.is }
+
+pub sorting_end : {w : ℕ → ℕ} {inputs : ℕ} {os f : List ℕ} (left : List ℕ) → Sorting w inputs os f left → length left ≡ 0 → f ≡ high_to_low w (gate_operands inputs os)
+sorting_end [] s e = s.is ∙ rw s.whole
+sorting_end (x ∷ left) s e = absurd (omega arith)
 
 -- ---- the weight: the largest sum of those from j on, from the largest so far
 
-pub record Peaking (w : ℕ → ℕ) (f : Four) (sofar j : ℕ) : Type 0 where
-  pub inside : j ≤ f.n
-  pub long : length f.a ≡ 4
-  pub same : largest_sum w j sofar (drop j (list_of f)) ≡ weight_from w (list_of f)
+pub larger_max : (a b : ℕ) → ord_max nat_cmp a b ≡ larger a b
+unfolding larger pick
+larger_max a b = grind (arith, nat_tests)
 
-module _ (w : ℕ → ℕ) (f : Four) (few : f.n ≤ 4) where
-  pub peaking_none : f.n ≡ 0 → 1 ≡ weight_from w (list_of f)
-  unfolding weight_from
-  peaking_none h = rw h
+pub record Peaking (w : ℕ → ℕ) (os : List ℕ) (sofar j : ℕ) : Type 0 where
+  pub same : largest_sum w j sofar (drop j os) ≡ weight_from w os
 
-  pub peaking_start : length f.a ≡ 4 → (f.n ≡ 0 → ⊥) → Peaking w f 0 0
-  unfolding weight_from
-  peaking_start l h = record { inside = omega arith; long = l; same = go (list_of f) (length-take-le f.n f.a (omega arith)) }
-    where
-      go : (t : List ℕ) → length t ≡ f.n → largest_sum w 0 0 t ≡ weight_from w t
-      go [] e = absurd (h (sym e))
-      go (o ∷ os) e = refl
+pub peaking_none : (w : ℕ → ℕ) (os : List ℕ) → length os ≡ 0 → 1 ≡ weight_from w os
+unfolding weight_from
+peaking_none w [] e = refl
+peaking_none w (o ∷ os) e = absurd (omega arith)
 
-  pub peaking_turn : (sofar j v : ℕ) → j < f.n → v ≡ larger sofar (w (get_or f.a j 0) + j) → Peaking w f sofar j → Peaking w f v (j + 1)
+pub peaking_start : (w : ℕ → ℕ) (os : List ℕ) → (length os ≡ 0 → ⊥) → Peaking w os 0 0
+unfolding weight_from
+peaking_start w [] h = absurd (h refl)
+peaking_start w (o ∷ os) h = record { same = refl }
+
+module _ {w : ℕ → ℕ} {os : List ℕ} {sofar j : ℕ} (p : Peaking w os sofar j) where
+  pub peaking_turn : {v : ℕ} → j < length os → v ≡ larger sofar (w (get_or os j 0) + j) → Peaking w os v (j + 1)
   unfolding largest_sum
-  peaking_turn sofar j v h e p =
-      let d : drop j (list_of f) ≡ get_or f.a j 0 ∷ drop (j + 1) (list_of f) = split w 0 f.a f.n j (omega (arith, p.long)) h in
-      record { inside = omega arith; long = p.long; same = rw (e, add-one j) (rw (d, add-one j) at p.same) }
+  peaking_turn {v} h e = record { same = rw (e, add-one j) (rw (drop-cons os j 0 h) at p.same) }
 
-  pub peaking_end : (sofar j : ℕ) → f.n ≤ j → Peaking w f sofar j → sofar ≡ weight_from w (list_of f)
+  pub peaking_end : length os ≤ j → sofar ≡ weight_from w os
   unfolding largest_sum
-  peaking_end sofar j h p =
-      let l : length (list_of f) ≤ j = omega (arith, length-take-le f.n f.a (omega (arith, p.long))) in
-      rw (drop_of_length-le (list_of f) l) at p.same
+  peaking_end h = rw (drop_of_length-le os h) at p.same

@@ -1,20 +1,20 @@
 -- The visit's loop over a signal's operands, and the loop over the roots, against the rule's visit by depth.
 -- Assumes nothing.
-use Prim.Native.Nat.{ℕ, zero, suc, ◌+◌, ◌-◌, ◌*◌, ◌<◌, ◌≤◌}
+use Prim.Native.Nat.{ℕ, zero, suc, ◌+◌, ◌-◌, ◌<◌, ◌≤◌}
 use native.Mathlib.Omega.{arith}
 use native.Mathlib.Numerals.{add-one}
 use mathlib.Core.Path.{◌≡◌, refl, ap, ◌∙◌}
 use mathlib.Core.Bool.{Bool, true, false}
 use mathlib.Core.List.{List, [], ◌∷◌, ◌++◌}
-use lib.ListN.{get_or, length, take}
+use borrow.Author.Tests.{eq-eqb, ne_eqb}
+use lib.ListN.{get_or, length, drop, drop_of_length-le}
+use lib.Seq.{drop-cons}
 use Rattle.rules.specs.Basics.{pick, mem, keep, each, upto}
 use Rattle.rules.specs.Order.{visit}
 use Rattle.rules.proofs.Laws.{cons_self, cons_more}
-use Rattle.netlist.specs.Flat.{from}
-use Rattle.order.specs.Sort.{ops_in}
-use Rattle.order.specs.Visit.{Tied, Lower, Appended, Visited, unread, order_from, Rooted, Ordered}
-use Rattle.netlist.proofs.Arrays.{mem-from}
-use Rattle.order.proofs.Marks.{mem-other, tied_fits}
+use Rattle.order.specs.Visit.{Lower, order_from}
+use Rattle.netlist.proofs.Arrays.{get_or-mem}
+use Rattle.order.proofs.Marks.{mem-other}
 
 -- ---- the rule's visit by depth: a depth over the signal's number is enough, and nothing above the signal is executed
 
@@ -52,89 +52,53 @@ module _ (ops : ℕ → List ℕ) (w : Lower ops) where
 
 -- ---- after j of the operands of s
 
-pub record Walking (vis cnt done₀ seq₀ : List ℕ) (n s : ℕ) (done seq : List ℕ) (m j : ℕ) : Type 0 where
-  pub inside : j ≤ get_or cnt s 0
-  pub tied : Tied done seq m
-  pub same : length done ≡ length done₀
-  pub fresh : mem s (take m seq) ≡ false
-  pub left : each (λ o d. visit (ops_in vis cnt) s o d) (from vis (4 * s + j) (get_or cnt s 0 - j)) (take m seq)
-      ≡ each (λ o d. visit (ops_in vis cnt) s o d) (ops_in vis cnt s) (take n seq₀)
+pub record Walking (ops : ℕ → List ℕ) (s : ℕ) (d₀ d : List ℕ) (j : ℕ) : Type 0 where
+  pub inside : j ≤ length (ops s)
+  pub fresh : mem s d ≡ false
+  pub left : each (λ o d. visit ops s o d) (drop j (ops s)) d ≡ each (λ o d. visit ops s o d) (ops s) d₀
 
-pub walking_start : (vis cnt done seq : List ℕ) (n s : ℕ) → Tied done seq n → mem s (take n seq) ≡ false → Walking vis cnt done seq n s done seq n 0
-walking_start vis cnt done seq n s t e =
-    let p : 4 * s + 0 ≡ 4 * s = omega arith in
-    let q : get_or cnt s 0 - 0 ≡ get_or cnt s 0 = omega arith in
-    record { inside = omega arith; tied = t; same = refl; fresh = e; left = rw (p, q) }
+pub operand_lower : (ops : ℕ → List ℕ) (s j : ℕ) → Lower ops → j < length (ops s) → get_or (ops s) j 0 < s
+operand_lower ops s j w h = w.low s (get_or (ops s) j 0) (get_or-mem (ops s) j h)
 
-pub operand_lower : (vis cnt : List ℕ) (s j : ℕ) → Lower (ops_in vis cnt) → j < get_or cnt s 0 → get_or vis (4 * s + j) 0 < s
-operand_lower vis cnt s j w h = w.low s (get_or vis (4 * s + j) 0) (mem-from vis (4 * s) (get_or cnt s 0) j h)
-
-module _ {vis cnt done₀ seq₀ : List ℕ} {n s : ℕ} {done seq : List ℕ} {m j : ℕ} (w : Lower (ops_in vis cnt)) (v : Walking vis cnt done₀ seq₀ n s done seq m j) where
-  pub walking_turn : {o : ℕ} {done' seq' : List ℕ} {r : ℕ} → j < get_or cnt s 0 → o ≡ get_or vis (4 * s + j) 0 → Visited (ops_in vis cnt) done seq m o done' seq' r
-      → Walking vis cnt done₀ seq₀ n s done' seq' r (j + 1)
-  unfolding each from
-  walking_turn {o} {done'} {seq'} {r} h e x =
-      let l : o < s = rw e (operand_lower vis cnt s j w h) in
-      let p : get_or cnt s 0 - j ≡ suc (get_or cnt s 0 - (j + 1)) = omega arith in
-      let i : 4 * s + (j + 1) ≡ 4 * s + j + 1 = omega arith in
-      let q : take r seq' ≡ visit (ops_in vis cnt) s o (take m seq) = x.is ∙ deep_enough (ops_in vis cnt) w (suc o) s o (take m seq) (omega arith) l in
+module _ {ops : ℕ → List ℕ} {s : ℕ} {d₀ d : List ℕ} {j : ℕ} (w : Lower ops) (v : Walking ops s d₀ d j) where
+  pub walking_turn : {o : ℕ} → j < length (ops s) → o ≡ get_or (ops s) j 0 → Walking ops s d₀ (visit ops (suc o) o d) (j + 1)
+  unfolding each
+  walking_turn {o} h e =
+      let l : o < s = rw e (operand_lower ops s j w h) in
+      let p : drop j (ops s) ≡ o ∷ drop (suc j) (ops s) = rw e (drop-cons (ops s) j 0 h) in
+      let q : visit ops (suc o) o d ≡ visit ops s o d = deep_enough ops w (suc o) s o d (omega arith) l in
       record {
         inside = omega arith;
-        tied = x.tied;
-        same = x.same ∙ v.same;
-        fresh = ap (mem s) q ∙ keeps_higher (ops_in vis cnt) w s s o (take m seq) l ∙ v.fresh;
-        left = rw (i, q, e) (rw p at v.left);
+        fresh = ap (mem s) q ∙ keeps_higher ops w s s o d l ∙ v.fresh;
+        left = rw (add-one j, q) (rw p at v.left);
       }
 
-  pub walking_done : get_or cnt s 0 ≤ j → mem s (take n seq₀) ≡ false → {done' seq' : List ℕ} {r : ℕ} → Appended done seq m s done' seq' r
-      → Visited (ops_in vis cnt) done₀ seq₀ n s done' seq' r
-  unfolding each from visit pick
-  walking_done h e a =
-      let p : get_or cnt s 0 - j ≡ 0 = omega arith in
-      let q : take m seq ≡ each (λ o d. visit (ops_in vis cnt) s o d) (ops_in vis cnt s) (take n seq₀) = rw p at v.left in
-      record { tied = a.tied; same = a.same ∙ v.same; is = a.is ∙ rw (e, q) }
+  pub walking_done : length (ops s) ≤ j → mem s d₀ ≡ false → d ++ (s ∷ []) ≡ visit ops (suc s) s d₀
+  unfolding each visit pick
+  walking_done h e = rw e (ap (λ l. l ++ (s ∷ [])) (rw (drop_of_length-le (ops s) h) at v.left))
 
-pub walking_none : (ops : ℕ → List ℕ) (done seq : List ℕ) (n s : ℕ) → Tied done seq n → mem s (take n seq) ≡ true → Visited ops done seq n s done seq n
+pub walking_none : (ops : ℕ → List ℕ) (s : ℕ) (d : List ℕ) → mem s d ≡ true → d ≡ visit ops (suc s) s d
 unfolding visit pick
-walking_none ops done seq n s t e = record { tied = t; same = refl; is = rw e }
+walking_none ops s d e = rw e
 
 -- ---- the loop over the roots
 
-pub record Rooting (ops : ℕ → List ℕ) (left done₀ : List ℕ) (first end : ℕ) (done seq : List ℕ) (n s : ℕ) : Type 0 where
+pub record Rooting (ops : ℕ → List ℕ) (left : List ℕ) (first end : ℕ) (d₀ d : List ℕ) (s : ℕ) : Type 0 where
   pub inside : s ≤ end
-  pub tied : Tied done seq n
-  pub same : length done ≡ length done₀
-  pub rest : order_from ops left s (end - s) (take n seq) ≡ order_from ops left first (end - first) []
+  pub rest : order_from ops left s (end - s) d ≡ order_from ops left first (end - first) d₀
 
-pub rooting_start : (ops : ℕ → List ℕ) (left done seq : List ℕ) (first end : ℕ) → Tied done seq 0 → first ≤ end → Rooting ops left done first end done seq 0 first
-rooting_start ops left done seq first end t h = record { inside = h; tied = t; same = refl; rest = refl }
+module _ {ops : ℕ → List ℕ} {left : List ℕ} {first end : ℕ} {d₀ d : List ℕ} {s : ℕ} (w : Rooting ops left first end d₀ d s) where
+  part : s < end → end - s ≡ suc (end - suc s)
+  part h = omega arith
 
-module _ {ops : ℕ → List ℕ} {left done₀ : List ℕ} {first end : ℕ} {done seq : List ℕ} {n s : ℕ} (w : Rooting ops left done₀ first end done seq n s) where
-  pub rooting_turn : {done' seq' : List ℕ} {r : ℕ} → s < end → Rooted ops left done seq n s done' seq' r → Rooting ops left done₀ first end done' seq' r (s + 1)
+  pub rooting_read : s < end → (get_or left s 0 ≡ 0 → ⊥) → Rooting ops left first end d₀ d (s + 1)
   unfolding order_from keep upto each pick
-  rooting_turn {done'} {seq'} {r} h v =
-      let p : end - s ≡ suc (end - suc s) = omega arith in
-      record {
-        inside = omega arith;
-        tied = v.tied;
-        same = v.same ∙ w.same;
-        rest = rw (v.is, add-one s) (go (unread left s) (end - suc s) ∙ (rw p at w.rest));
-      }
-    where
-      go : (b : Bool) (m : ℕ) → each (λ x e. visit ops (suc x) x e) (keep (unread left) (upto (suc s) m)) (pick b (visit ops (suc s) s (take n seq)) (take n seq))
-          ≡ each (λ x e. visit ops (suc x) x e) (pick b (s ∷ keep (unread left) (upto (suc s) m)) (keep (unread left) (upto (suc s) m))) (take n seq)
-      go true m = refl
-      go false m = refl
+  rooting_read h e = record { inside = omega arith; rest = rw (add-one s) (rw (part h, ne_eqb (get_or left s 0) 0 e) at w.rest) }
 
-  pub rooting_end : end ≤ s → Ordered ops left seq first end n
+  pub rooting_turn : s < end → get_or left s 0 ≡ 0 → Rooting ops left first end d₀ (visit ops (suc s) s d) (s + 1)
+  unfolding order_from keep upto each pick
+  rooting_turn h e = record { inside = omega arith; rest = rw (add-one s) (rw (part h, eq-eqb (get_or left s 0) 0 e) at w.rest) }
+
+  pub rooting_end : end ≤ s → d ≡ order_from ops left first (end - first) d₀
   unfolding order_from keep upto each
-  rooting_end h = let p : end - s ≡ 0 = omega arith in record { fits = tied_fits done seq n w.tied; behind = w.tied.behind; is = rw p at w.rest }
-
-pub rooted_yes : {ops : ℕ → List ℕ} {left done seq : List ℕ} {n s : ℕ} {done' seq' : List ℕ} {r : ℕ} → unread left s ≡ true → Visited ops done seq n s done' seq' r
-    → Rooted ops left done seq n s done' seq' r
-unfolding pick
-rooted_yes e v = record { tied = v.tied; same = v.same; is = rw e v.is }
-
-pub rooted_no : {ops : ℕ → List ℕ} {left done seq : List ℕ} {n s : ℕ} → unread left s ≡ false → Tied done seq n → Rooted ops left done seq n s done seq n
-unfolding pick
-rooted_no e t = record { tied = t; same = refl; is = rw e }
+  rooting_end h = let p : end - s ≡ 0 = omega arith in rw p at w.rest

@@ -2,39 +2,25 @@
 -- Assumes nothing.
 use Prim.Native.Nat.{ℕ, zero, suc, ◌+◌, ◌-◌, ◌*◌, ◌<◌, ◌≤◌}
 use native.Mathlib.Omega.{arith}
-use native.Mathlib.Numerals.{add-one, add-two, add-three}
 use native.Mathlib.Decide.{dec_lt}
 use mathlib.Core.Path.{◌≡◌, refl, ◌∙◌}
 use mathlib.Core.Bool.{true}
 use mathlib.Core.List.{List, [], ◌∷◌, ◌++◌}
 use lib.Dec.{leb, ltb}
 use borrow.Author.Tests.{leb-true}
-use lib.ListN.{get_or, length, set, replicate, length-append, length-replicate, get_or-append}
-use lib.Seq.{sets, length-take-le}
+use lib.ListN.{get_or, length, replicate, length-append, length-replicate, get_or-append}
 use Rattle.rules.specs.Basics.{mem, keep, larger}
 use Rattle.rules.specs.Values.{table}
 use Rattle.rules.specs.Netlist.{operands_of}
 use Rattle.rules.specs.Weight.{high_to_low, gate_operands, largest_sum, weight_from, weight_in, weigh, weights}
 use Rattle.rules.specs.Order.{visit_order}
 use Rattle.rules.proofs.Laws.{by_pick, cons_self}
+use Rattle.rules.proofs.Lists.{keep_mem}
 use Rattle.netlist.specs.declared.Netlist.{Netlist}
 use Rattle.netlist.specs.Flat.{gate_in, gates_in, netlist_in}
-use Rattle.order.specs.declared.weights.Four.{Four}
-use Rattle.order.specs.Sort.{list_of, Light}
-use Rattle.netlist.proofs.Arrays.{length-gates, get_or-gates, from_mem}
+use Rattle.netlist.proofs.Arrays.{length-gate, length-gates, get_or-gates, from_mem}
 use Rattle.order.specs.Plan.{Fits}
-use Rattle.order.proofs.Members.{mem-keep}
 use Rattle.order.proofs.Lists.{gates_past}
-
--- ---- four numbers put one after the other
-
-pub four_sets : (l a : List ℕ) (p : ℕ) → length a ≡ 4 → set (set (set (set l p (get_or a 0 0)) (p + 1) (get_or a 1 0)) (p + 2) (get_or a 2 0)) (p + 3) (get_or a 3 0) ≡ sets l p a
-four_sets l [] p e = absurd (omega arith)
-four_sets l (x ∷ []) p e = absurd (omega arith)
-four_sets l (x ∷ y ∷ []) p e = absurd (omega arith)
-four_sets l (x ∷ y ∷ z ∷ []) p e = absurd (omega arith)
-four_sets l (x ∷ y ∷ z ∷ u ∷ []) p e = rw (add-one, add-two, add-three)
-four_sets l (x ∷ y ∷ z ∷ u ∷ v ∷ a) p e = absurd (omega arith)
 
 -- ---- a weight is at most 3 over the heaviest operand's
 
@@ -52,10 +38,6 @@ pub weight_small : (w : ℕ → ℕ) (m : ℕ) → ((s : ℕ) → w s ≤ m) →
 unfolding weight_from
 weight_small w m h [] l = omega arith
 weight_small w m h (o ∷ os) l = sum_small w m h 0 0 (o ∷ os) (omega arith) (omega arith)
-
-pub weight_fits : (wts : List ℕ) (m : ℕ) (f : Four) (r : ℕ) → Light wts m → m ≤ 60000 → f.n ≤ 4 → length f.a ≡ 4 → r ≡ weight_from (weight_in wts) (list_of f) → r < 65536
-weight_fits wts m f r l s h k e =
-    rw e (omega (arith, weight_small (weight_in wts) m l.all (list_of f) (omega (arith, length-take-le f.n f.a (omega arith)))))
 
 -- ---- the table grown gate by gate
 
@@ -100,7 +82,10 @@ pub rule_order : (n : Netlist) (s : ℕ) → visit_order (netlist_in n) s ≡ or
 unfolding visit_order netlist_in operands_of weights
 rule_order n s = refl
 
--- ---- a gate's operands are lower than it is
+-- ---- a gate has at most four operands, lower than it is
+
+pub few_operands : (n : Netlist) → Fits n → (g : ℕ) → g < n.gates → length (gate_in n.ops n.counts g) ≤ 4
+few_operands n w g h = omega (arith, length-gate n.ops n.counts g, w.few g h)
 
 pub operand_low : (n : Netlist) → Fits n → (g o : ℕ) → g < n.gates → mem o (gate_in n.ops n.counts g) ≡ true → o < n.inputs + g
 unfolding gate_in
@@ -111,7 +96,7 @@ operand_low n w g o h e =
 -- the gates among a list's members
 pub mem-gates : (inputs o : ℕ) (l : List ℕ) → mem o (gate_operands inputs l) ≡ true → (inputs ≤ o) × (mem o l ≡ true)
 unfolding gate_operands
-mem-gates inputs o l e = let r = mem-keep (leb inputs) o l e in (leb-true inputs o r.0, r.1)
+mem-gates inputs o l e = let r = keep_mem (leb inputs) l o e in (leb-true inputs o r.1, r.0)
 
 no_gates : (inputs : ℕ) → gate_operands inputs [] ≡ []
 unfolding gate_operands keep

@@ -1,4 +1,4 @@
-pub mod Sort
+pub mod Tables
 pub mod Visit
 pub mod Wanted
 pub mod Plan

@@ -10,7 +10,7 @@ use Rattle.order.specs.Wanted.{times, waiting}
 
 -- at most four operands, all lower than a limit
 unfoldable pub gate_fits : List ℕ → List ℕ → ℕ → ℕ → Bool
-unfolding gate_in all
+unfolding gate_in
 gate_fits ops counts limit g = leb (get_or counts g 0) 4 && all (λ o. ltb o limit) (gate_in ops counts g)
 
 -- the k gates from g on, each with operands lower than itself
@@ -21,7 +21,7 @@ gates_fit inputs ops counts g (suc k) = gate_fits ops counts (inputs + g) g && g
 
 -- numbers within document 01's, operands lower than their reader, outputs signals
 unfoldable pub is_flat : Netlist → Bool
-unfolding gates_fit all from
+unfolding gates_fit from
 is_flat n =
     leb n.inputs 64 && (leb n.gates 512 && (leb n.outputs 64 && (gates_fit n.inputs n.ops n.counts 0 n.gates
     && all (λ o. ltb o (n.inputs + n.gates)) (from n.outs 0 n.outputs))))

@@ -1,73 +1,43 @@
 // Limits: whether a netlist keeps to those that the order relies on.
-ghost use Rattle.std.specs.Prelude.{◌≡◌, ◌+◌, ◌≤◌, ◌<◌, ltb};
+ghost use Rattle.std.specs.Prelude.{◌≡◌, ◌+◌, ◌≤◌, ◌<◌, ltb, IsTrue};
+ghost use Rattle.std.specs.List.{range_with_len};
 ghost use Rattle.rules.specs.Basics.{all};
-ghost use Rattle.netlist.specs.Flat.{from};
-ghost use Rattle.order.specs.Plan.{gate_fits, gates_fit, is_flat};
+ghost use Rattle.order.specs.Plan.{gate_fits, is_flat, Fits};
 
 use netlist::Netlist;
-use slices::{at8, at16};
 
-// Whether the k numbers from a place on are lower than a limit.
-fn all_below(list: &[u16], at: usize, k: usize, limit: usize) -> bool
-    requires { (at ≤ 2048) × (k ≤ 64) }
-    ensures { result ≡ all (λ o. ltb o limit) (from list.now at k) }
+// Whether all numbers are lower than a limit.
+fn all_below(list: &[u16], limit: usize) -> bool
+    ensures { result ≡ all (λ o. ltb o limit) list.now }
 {
-    let mut j = 0;
-    while j < k {
-        let o = at16(list, at + j) as usize;
-        if limit <= o {
-            return false;
-        }
-        j += 1;
-    }
-    true
+    list.iter().all(|&o| usize::from(o) < limit)
 }
 
-// Whether gate g has at most four operands, all lower than a limit.
-fn gate_fits(ops: &[u16], counts: &[u8], g: usize, limit: usize) -> bool
-    requires { g < 512 }
-    ensures { result ≡ gate_fits ops.now counts.now limit g }
+// Whether gate g has at most four operands, all lower than the gate's own number.
+#[tactic(auto, unfolding(crate::specs::Plan::gate_fits))]
+fn gate_fits(n: &Netlist, g: usize) -> bool
+    requires gate { g < 512 }
+    requires inputs { n.now.inputs ≤ 64 }
+    ensures { result ≡ gate_fits n.now.ops n.now.counts (n.now.inputs + g) g }
 {
-    let k = at8(counts, g) as usize;
-    if 4 < k {
-        return false;
-    }
-    all_below(ops, 4 * g, k, limit)
+    n.counts[g] <= 4 && all_below(n.operands(g), n.inputs + g)
 }
 
-fn gates_fit(n: Netlist) -> bool
-    requires { (n.inputs ≤ 64) × (n.gates ≤ 512) }
-    ensures { result ≡ gates_fit n.inputs n.ops n.counts 0 n.gates }
+fn gates_fit(n: &Netlist) -> bool
+    requires inputs { n.now.inputs ≤ 64 }
+    requires gates { n.now.gates ≤ 512 }
+    ensures { result ≡ all (λ g. gate_fits n.now.ops n.now.counts (n.now.inputs + g) g) (range_with_len 0 n.now.gates) }
 {
-    let inputs = n.inputs;
-    let gates = n.gates;
-    let ops = n.ops;
-    let counts = n.counts;
-    let mut g = 0;
-    while g < gates {
-        if !gate_fits(&ops, &counts, g, inputs + g) {
-            return false;
-        }
-        g += 1;
-    }
-    true
+    (0..n.gates).all(|g| gate_fits(n, g))
 }
 
-pub(crate) fn fits(n: Netlist) -> bool
-    ensures { result ≡ is_flat n }
+pub(crate) fn fits(n: &Netlist) -> bool
+    ensures flat { result ≡ is_flat n.now }
+    ensures facts { IsTrue result → Fits n.now }
 {
-    if 64 < n.inputs {
-        return false;
-    }
-    if 512 < n.gates {
-        return false;
-    }
-    if 64 < n.outputs {
-        return false;
-    }
-    if !gates_fit(n) {
-        return false;
-    }
-    let outs = n.outs;
-    all_below(&outs, 0, n.outputs, n.inputs + n.gates)
+    n.inputs <= 64
+        && n.gates <= 512
+        && n.outputs <= 64
+        && gates_fit(n)
+        && all_below(n.output_list(), n.inputs + n.gates)
 }

@@ -7,18 +7,17 @@ use mathlib.Core.Path.{◌≡◌, refl, sym, ap, ◌∙◌}
 use mathlib.Core.Bool.{Bool, true, false, ◌&&◌}
 use mathlib.Core.List.{List, [], ◌∷◌}
 use lib.Dec.{eqb, leb}
-use lib.ListN.{get_or, length, drop, drop_of_length-le}
+use lib.ListN.{get_or, length, drop, drop_of_length-le, length-drop}
 use lib.Seq.{drop-cons, get_or-drop}
 use borrow.Author.Tests.{eq-eqb, ne_eqb, eqb-true, lt-leb}
 use Rattle.rules.specs.Basics.{pick}
 use Rattle.rules.specs.Form.{form01}
-use Rattle.rules.specs.Lines.{is_digit, digits, is_line}
+use Rattle.rules.specs.Lines.{is_digit, value_of, digits, is_line}
 use Rattle.rules.specs.Sequence.{Set}
 use Rattle.rules.proofs.Laws.{no_way, and_true}
-use Rattle.lines.specs.declared.Line.TheVariants.{Frame}
 use Rattle.lines.specs.Line.{line_at, byte_at, bytes_from}
 use Rattle.lines.proofs.Meaning.{frame_fits}
-use Rattle.row.specs.declared.Entry.{Entry}
+use Rattle.std.specs.Prelude.{Some, None, Ok}
 use Rattle.row.specs.Decoded.{cells_in, cells_from, first_of, cell_at, end_from, nor_on, instruction_at, next_at}
 use Rattle.row.proofs.Digits.{digit_in, digits_further, no_feed}
 
@@ -43,53 +42,72 @@ module _ (text : List ℕ) (at : ℕ) where
           rw (drop-cons text at 0 l, e)
       go (no l) = rw (drop_of_length-le text {i = at} (omega arith))
 
-  pub cell_past : length text ≤ at + 1 → Entry.End ≡ cell_at text at
+  pub cell_past : length text ≤ at + 1 → None ≡ cell_at text at
   unfolding cell_at first_of
   cell_past h = rw (cells_short h)
 
   module _ (h : at + 1 < length text) where
-    pub cell_feed : get_or text at 0 ≡ 10 → Entry.End ≡ cell_at text at
+    pub cell_feed : get_or text at 0 ≡ 10 → None ≡ cell_at text at
     unfolding cell_at first_of pick
     cell_feed e = rw (cells_open h, eq-eqb (get_or text at 0) 10 e)
 
-    pub cell_named : (b : ℕ) → (get_or text at 0 ≡ 10 → ⊥) → b ≡ byte_at text at → Entry.Cell b ≡ cell_at text at
+    pub cell_named : (b : ℕ) → (get_or text at 0 ≡ 10 → ⊥) → b ≡ byte_at text at → Some b ≡ cell_at text at
     unfolding cell_at first_of pick
     cell_named b n e = rw (cells_open h, ne_eqb (get_or text at 0) 10 n, e)
 
   -- a named cell is followed by those two places further
-  pub named : (c : ℕ) → cell_at text at ≡ Entry.Cell c → (cells_from text at ≡ c ∷ cells_from text (at + 2)) × (at + 2 ≤ length text)
+  pub named : (c : ℕ) → Some c ≡ cell_at text at → (cells_from text at ≡ c ∷ cells_from text (at + 2)) × (at + 2 ≤ length text)
   unfolding cell_at first_of pick
-  named c e = go (dec_lt (at + 1) (length text)) e
+  named c e = go (dec_lt (at + 1) (length text)) (sym e)
     where
-      fed : (t : Bool) → first_of (pick t [] (byte_at text at ∷ cells_from text (at + 2))) ≡ Entry.Cell c
+      fed : (t : Bool) → first_of (pick t [] (byte_at text at ∷ cells_from text (at + 2))) ≡ Some c
           → pick t [] (byte_at text at ∷ cells_from text (at + 2)) ≡ c ∷ cells_from text (at + 2)
       fed true f = absurd (no_way (cc))
       fed false f = cc
 
-      go : Dec (at + 1 < length text) → first_of (cells_from text at) ≡ Entry.Cell c → (cells_from text at ≡ c ∷ cells_from text (at + 2)) × (at + 2 ≤ length text)
+      go : Dec (at + 1 < length text) → first_of (cells_from text at) ≡ Some c → (cells_from text at ≡ c ∷ cells_from text (at + 2)) × (at + 2 ≤ length text)
       go (yes h) f = (cells_open h ∙ fed (eqb (get_or text at 0) 10) (rw (cells_open h) at f), omega arith)
       go (no h) f = absurd (no_way (let z = cells_short (omega arith) in cc))
 
+  pub cell_within : (c : ℕ) → Some c ≡ cell_at text at → at + 2 ≤ length text
+  cell_within c e = (named c e).1
+
   -- it is the byte whose digits stand there
-  pub cell_is : (c : ℕ) → cell_at text at ≡ Entry.Cell c → byte_at text at ≡ c
+  pub cell_is : (c : ℕ) → Some c ≡ cell_at text at → byte_at text at ≡ c
   unfolding cell_at first_of pick
-  cell_is c e = go (dec_lt (at + 1) (length text)) e
+  cell_is c e = go (dec_lt (at + 1) (length text)) (sym e)
     where
-      fed : (t : Bool) → first_of (pick t [] (byte_at text at ∷ cells_from text (at + 2))) ≡ Entry.Cell c → byte_at text at ≡ c
+      fed : (t : Bool) → first_of (pick t [] (byte_at text at ∷ cells_from text (at + 2))) ≡ Some c → byte_at text at ≡ c
       fed true f = absurd (no_way (cc))
       fed false f = cc
 
-      go : Dec (at + 1 < length text) → first_of (cells_from text at) ≡ Entry.Cell c → byte_at text at ≡ c
+      go : Dec (at + 1 < length text) → first_of (cells_from text at) ≡ Some c → byte_at text at ≡ c
       go (yes h) f = fed (eqb (get_or text at 0) 10) (rw (cells_open h) at f)
       go (no h) f = absurd (no_way (let z = cells_short (omega arith) in cc))
 
-  pub ended : cell_at text at ≡ Entry.End → cells_from text at ≡ []
+  pub ended : None ≡ cell_at text at → cells_from text at ≡ []
   unfolding cell_at first_of
-  ended e = go (cells_from text at) e
+  ended e = go (cells_from text at) (sym e)
     where
-      go : (l : List ℕ) → first_of l ≡ Entry.End → l ≡ []
+      go : (l : List ℕ) → first_of l ≡ None → l ≡ []
       go [] f = refl
       go (c ∷ l) f = absurd (no_way (cc))
+
+-- two digits to a cell
+pub cells_fit : (l : List ℕ) → 2 * length (cells_in l) ≤ length l
+unfolding cells_in pick
+cells_fit [] = omega arith
+cells_fit (h ∷ []) = omega arith
+cells_fit (h ∷ l ∷ t) = go (eqb h 10) (cells_fit t)
+  where
+    go : (u : Bool) → 2 * length (cells_in t) ≤ length t → 2 * length (pick u [] ((16 * value_of h + value_of l) ∷ cells_in t)) ≤ suc (suc (length t))
+    go true e = omega arith
+    go false e = omega arith
+
+-- so cells from within a text end within it
+pub end_inside : (text : List ℕ) (at : ℕ) → at ≤ length text + 1 → end_from text at ≤ length text + 1
+unfolding end_from cells_from
+end_inside text at h = omega (arith, cells_fit (drop at text), length-drop at text)
 
 -- ---- the instruction at a place, by its kind
 
@@ -112,32 +130,24 @@ module _ (text : List ℕ) (at : ℕ) (h : at < length text) where
 pub record Walk {A : Type 0} (f : List ℕ → A) (a : A) (text : List ℕ) (first at : ℕ) : Type 0 where
   pub same : f (cells_from text at) ≡ a
   pub stop : end_from text at ≡ end_from text first
-  pub inside : at ≤ length text + 1
 
-pub walk_start : {A : Type 0} (f : List ℕ → A) (text : List ℕ) (first : ℕ) → first ≤ length text + 1 → Walk f (f (cells_from text first)) text first first
-walk_start f text first h = record { same = refl; stop = refl; inside = h }
-
-pub walk_inside : (text : List ℕ) (at c : ℕ) (n : Entry) → n ≡ cell_at text at → n ≡ Entry.Cell c → at + 2 ≤ length text
-walk_inside text at c n e q = (named text at c (sym e ∙ q)).1
-
-module _ {A : Type 0} {f : List ℕ → A} {a : A} {text : List ℕ} {first at : ℕ} (walk : Walk f a text first at) (n : Entry) (here : n ≡ cell_at text at) where
-  pub walk_turn : (g : List ℕ → A) (c : ℕ) → n ≡ Entry.Cell c → f (c ∷ cells_from text (at + 2)) ≡ g (cells_from text (at + 2)) → Walk g a text first (at + 2)
+module _ {A : Type 0} {f : List ℕ → A} {a : A} {text : List ℕ} {first at : ℕ} (walk : Walk f a text first at) where
+  pub walk_turn : (g : List ℕ → A) (c : ℕ) → Some c ≡ cell_at text at → f (c ∷ cells_from text (at + 2)) ≡ g (cells_from text (at + 2)) → Walk g a text first (at + 2)
   unfolding end_from
-  walk_turn g c q turn =
-      let z = named text at c (sym here ∙ q) in
+  walk_turn g c here turn =
+      let z = named text at c here in
       record {
         same = sym turn ∙ ap f (sym z.0) ∙ walk.same;
         stop =
             let l : length (cells_from text at) ≡ suc (length (cells_from text (at + 2))) = ap length z.0 in
             let e : at + 2 + 2 * length (cells_from text (at + 2)) ≡ at + 2 * length (cells_from text at) = omega arith in
             e ∙ walk.stop;
-        inside = omega (arith, z.1);
       }
 
-  pub walk_end : n ≡ Entry.End → (v : A) → f [] ≡ v → (at ≡ end_from text first) × (v ≡ a)
+  pub walk_end : None ≡ cell_at text at → (v : A) → f [] ≡ v → (at ≡ end_from text first) × (v ≡ a)
   unfolding end_from
-  walk_end q v e =
-      let z = ended text at (sym here ∙ q) in
+  walk_end here v e =
+      let z = ended text at here in
       let l : ◌≡◌ {A = ℕ} (length (cells_from text at)) 0 = ap length z in
       let s : at ≡ at + 2 * length (cells_from text at) = omega arith in
       (s ∙ walk.stop, sym e ∙ ap f (sym z) ∙ walk.same)
@@ -160,7 +170,7 @@ cells_are text (suc k) p d h e =
     let m : 2 * k ≤ digits (drop (p + 2) text) = omega (arith, digits_further text p 2 (omega arith)) in
     rw (cells_open text p (omega arith), ne_eqb (get_or text p 0) 10 (no_feed (get_or text p 0) c), cells_are text k (p + 2) m (omega arith) (rw i at e))
 
-module _ (text : List ℕ) (at n : ℕ) (e : line_at text at ≡ Frame n) where
+module _ (text : List ℕ) (at n : ℕ) (e : line_at text at ≡ Ok n) where
   fed : get_or text (at + n) 0 ≡ 10
   unfolding is_line form01
   fed =

@@ -1,18 +1,25 @@
 -- Digits: two cells are the same exactly when their digits are.
-use Prim.Native.Nat.{ℕ, zero, suc, ◌+◌, ◌<◌, ◌≤◌}
+use Prim.Native.Nat.{ℕ, zero, suc, ◌+◌, ◌*◌, ◌<◌, ◌≤◌}
 use native.Mathlib.Omega.{arith}
 use mathlib.Core.Path.{◌≡◌, refl, sym, ap, ◌∙◌}
 use mathlib.Core.Bool.{Bool, true, false, ◌&&◌, ◌||◌}
 use mathlib.Core.List.{List, [], ◌∷◌}
 use lib.Dec.{eqb, leb}
-use lib.ListN.{get_or, length, drop, length-drop}
+use lib.ListN.{get_or, length, drop}
 use lib.Seq.{get_or-drop, drop-drop}
 use borrow.Author.Tests.{eqb-true, eqb-false, eq-eqb, ne_eqb, leb-true}
 use Rattle.rules.specs.Basics.{pick}
 use Rattle.rules.specs.Lines.{is_digit, value_of, digits}
 use Rattle.rules.proofs.Laws.{and_true}
-use Rattle.lines.specs.Line.{byte_at}
+use Rattle.lines.specs.Line.{byte_at, bytes_from}
+use Rattle.row.proofs.Judging.{length-bytes}
 use Rattle.lines.proofs.Laws.{value_number, value_letter, value_small}
+
+get_or-bytes : (text : List ℕ) (k at j : ℕ) → j < k → get_or (bytes_from text at k) j 0 ≡ byte_at text (at + 2 * j)
+unfolding bytes_from
+get_or-bytes text zero at j h = absurd (omega arith)
+get_or-bytes text (suc k) at zero h = let z : at + 2 * 0 ≡ at = omega arith in rw z
+get_or-bytes text (suc k) at (suc j) h = let z : at + 2 * suc j ≡ at + 2 + 2 * j = omega arith in rw (z, get_or-bytes text k (at + 2) j (omega arith))
 
 pub digits_most : (t : List ℕ) → digits t ≤ length t
 unfolding digits pick
@@ -49,9 +56,6 @@ digits_after (suc k) (c ∷ t) h = go (is_digit c) (digits_after k t) h
 pub digits_further : (text : List ℕ) (p i : ℕ) → i ≤ digits (drop p text) → digits (drop (p + i) text) + i ≡ digits (drop p text)
 digits_further text p i h = ap (λ t. digits t + i) (sym (drop-drop i p text)) ∙ digits_after i (drop p text) h
 
-pub digits_inside : (text : List ℕ) (p k : ℕ) → 1 ≤ k → k ≤ digits (drop p text) → p + k ≤ length text
-digits_inside text p k h l = omega (arith, digits_most (drop p text), length-drop p text)
-
 -- a digit is a number or a letter
 digit_is : (P : Type 0) (c : ℕ) → is_digit c ≡ true → (48 ≤ c → c < 58 → P) → (65 ≤ c → c < 71 → P) → P
 unfolding is_digit
@@ -82,14 +86,15 @@ module _ (text : List ℕ) (a b : ℕ) (at_a : 2 ≤ digits (drop a text)) (at_b
   second_digit p h = ap is_digit (sym (get_or-drop p text 1 0)) ∙ digit_in (drop p text) 1 (omega arith)
 
   -- the high digits differ
-  pub unlike : (get_or text a 0 ≡ get_or text b 0 → ⊥) → false ≡ eqb (byte_at text a) (byte_at text b)
+  unlike : (get_or text a 0 ≡ get_or text b 0 → ⊥) → eqb (get_or text a 0) (get_or text b 0) ≡ eqb (byte_at text a) (byte_at text b)
   unfolding byte_at
   unlike h =
-      sym (ne_eqb (byte_at text a) (byte_at text b) (λ e. h (value_same (get_or text a 0) (get_or text b 0) (first_digit a at_a) (first_digit b at_b)
+      ne_eqb (get_or text a 0) (get_or text b 0) h
+      ∙ sym (ne_eqb (byte_at text a) (byte_at text b) (λ e. h (value_same (get_or text a 0) (get_or text b 0) (first_digit a at_a) (first_digit b at_b)
       (omega (arith, e, value_small (get_or text (a + 1) 0), value_small (get_or text (b + 1) 0))))))
 
   -- the low digits decide
-  pub alike_then : get_or text a 0 ≡ get_or text b 0 → eqb (get_or text (a + 1) 0) (get_or text (b + 1) 0) ≡ eqb (byte_at text a) (byte_at text b)
+  alike_then : get_or text a 0 ≡ get_or text b 0 → eqb (get_or text (a + 1) 0) (get_or text (b + 1) 0) ≡ eqb (byte_at text a) (byte_at text b)
   unfolding byte_at
   alike_then h = go (eqb (get_or text (a + 1) 0) (get_or text (b + 1) 0)) refl
     where
@@ -99,3 +104,28 @@ module _ (text : List ℕ) (a b : ℕ) (at_a : 2 ≤ digits (drop a text)) (at_b
       go false q =
           sym (ne_eqb (byte_at text a) (byte_at text b) (λ e. eqb-false (get_or text (a + 1) 0) (get_or text (b + 1) 0) q
           (value_same (get_or text (a + 1) 0) (get_or text (b + 1) 0) (second_digit a at_a) (second_digit b at_b) (omega (arith, e, ap value_of h)))))
+
+-- ---- the cells of a line as the list of their numbers
+
+module _ (text : List ℕ) (first count : ℕ) (cells : List ℕ) (view : bytes_from text first count ≡ cells) where
+  pub cells_long : count ≡ length cells
+  cells_long = sym (length-bytes text first count) ∙ ap length view
+
+  module _ (j : ℕ) (h : j < length cells) where
+    pub cell_is : byte_at text (first + 2 * j) ≡ get_or cells j 0
+    cell_is = rw (← view) (sym (get_or-bytes text count first j (omega (arith, cells_long))))
+
+    pub cell_inside : first + 2 * count ≤ length text → first + 2 * j + 2 ≤ length text
+    cell_inside m = omega (arith, cells_long)
+
+    cell_digits : 2 * count ≤ digits (drop first text) → 2 ≤ digits (drop (first + 2 * j) text)
+    cell_digits m = omega (arith, cells_long, digits_further text first (2 * j) (omega (arith, cells_long)))
+
+  module _ (i j : ℕ) (h : i < length cells) (m : j < length cells) (written : 2 * count ≤ digits (drop first text)) where
+    pub cells_unlike : (get_or text (first + 2 * i) 0 ≡ get_or text (first + 2 * j) 0 → ⊥)
+        → eqb (get_or text (first + 2 * i) 0) (get_or text (first + 2 * j) 0) ≡ eqb (get_or cells i 0) (get_or cells j 0)
+    cells_unlike n = rw (← cell_is i h, ← cell_is j m) (unlike text (first + 2 * i) (first + 2 * j) (cell_digits i h written) (cell_digits j m written) n)
+
+    pub cells_alike : get_or text (first + 2 * i) 0 ≡ get_or text (first + 2 * j) 0
+        → eqb (get_or text (first + 2 * i + 1) 0) (get_or text (first + 2 * j + 1) 0) ≡ eqb (get_or cells i 0) (get_or cells j 0)
+    cells_alike n = rw (← cell_is i h, ← cell_is j m) (alike_then text (first + 2 * i) (first + 2 * j) (cell_digits i h written) (cell_digits j m written) n)

@@ -1,7 +1,7 @@
 -- What the first line answers, by the rule for a sequence's head.
 use Prim.Native.Nat.{ℕ, ◌+◌, ◌-◌, ◌/◌}
 use native.Mathlib.Omega.{arith}
-use mathlib.Core.Path.{◌≡◌, refl, ap}
+use mathlib.Core.Path.{◌≡◌, refl, sym}
 use mathlib.Core.Bool.{Bool, true, false, ◌&&◌}
 use mathlib.Core.List.{List, [], ◌∷◌}
 use mathlib.Core.Option.{none, some}
@@ -10,22 +10,20 @@ use borrow.Author.Tests.{eq-eqb, ne_eqb}
 use Rattle.rules.specs.declared.Refusal.{Refusal}
 use Rattle.rules.specs.Basics.{pick}
 use Rattle.rules.specs.Form.{form01, one, two}
-use Rattle.rules.specs.Refusals.{good, refuse, ◌>>=◌, ◌>>◌, require, or_refuse}
+use Rattle.rules.specs.Refusals.{good, refused, ◌>>=◌, ◌>>◌, require, or_refuse, number_of}
 use Rattle.rules.specs.Lines.{fields, also}
 use Rattle.rules.specs.Netlist.{due}
 use Rattle.rules.specs.Sequence.{SequenceHead, sequence_head_of}
-use Rattle.lines.specs.declared.Line.{Line}
-use Rattle.lines.specs.declared.Line.TheVariants.{Frame, Refused}
 use Rattle.lines.specs.Line.{line_at, byte_at, word_at, bytes_from}
 use Rattle.lines.proofs.Meaning.{frame_fits}
-use Rattle.row.specs.declared.Reading.{Reading}
-use Rattle.row.specs.Answers.{head_in, head_from, head_answer, numbers_fit}
+use Rattle.std.specs.Prelude.{Ok, Err}
+use Rattle.row.specs.Answers.{head_answer, numbers_fit}
 use Rattle.row.proofs.Judging.{length-bytes}
 use Rattle.row.proofs.Framed.{kind_first, widths, fields_none}
 
 -- five requirements with one number are one
 all_required : {A : Type 0} (a b c d e : Bool) (x : A)
-    → (require a 3 >> (require b 3 >> (require c 3 >> (require d 3 >> (require e 3 >> good x))))) ≡ pick (a && (b && (c && (d && e)))) (good x) (refuse 3)
+    → (require a 3 >> (require b 3 >> (require c 3 >> (require d 3 >> (require e 3 >> good x))))) ≡ pick (a && (b && (c && (d && e)))) (good x) (refused 3)
 unfolding require ◌>>◌ pick
 all_required false b c d e x = refl
 all_required true false c d e x = refl
@@ -34,24 +32,24 @@ all_required true true true false e x = refl
 all_required true true true true false x = refl
 all_required true true true true true x = refl
 
-pub head_refused : (text : List ℕ) (l : Line) (r : Refusal) → l ≡ line_at text 0 → l ≡ Refused r → Reading.Refused r ≡ head_answer text
-unfolding head_answer head_from
-head_refused text l r e f = rw (← e, f)
+pub head_refused : (text : List ℕ) (r : Refusal) → Err r ≡ line_at text 0 → refused (number_of r) ≡ head_answer text
+unfolding head_answer ◌>>=◌
+head_refused text r e = rw (← e)
 
-module _ (text : List ℕ) (n k : ℕ) (e : line_at text 0 ≡ Frame n) (kind : k ≡ byte_at text 0) where
-  framed : head_answer text ≡ head_in (sequence_head_of form01 (k ∷ bytes_from text 2 (n / 2 - 1))) (n + 1)
-  unfolding head_answer head_from
-  framed = rw (e, kind_first text 0 n (frame_fits text 0 n e), kind)
+module _ (text : List ℕ) (n k : ℕ) (e : Ok n ≡ line_at text 0) (kind : k ≡ byte_at text 0) where
+  framed : head_answer text ≡ sequence_head_of form01 (k ∷ bytes_from text 2 (n / 2 - 1))
+  unfolding head_answer ◌>>=◌
+  framed = rw (← e, kind_first text 0 n (frame_fits text 0 n (sym e)), kind)
 
-  pub head_kind : (k ≡ 17 → ⊥) → Reading.Refused (record { number = 2 }) ≡ head_answer text
-  unfolding sequence_head_of form01 due pick head_in ◌>>=◌
-  head_kind h = rw (framed, ne_eqb k 17 h)
+  pub head_other : (k ≡ 17 → ⊥) → refused 2 ≡ head_answer text
+  unfolding sequence_head_of form01 due pick ◌>>=◌
+  head_other h = rw (framed, ne_eqb k 17 h)
 
   module _ (is : k ≡ 17) where
-    pub head_length : (n ≡ 12 → ⊥) → Reading.Refused (record { number = 2 }) ≡ head_answer text
-    unfolding sequence_head_of form01 due pick head_in ◌>>=◌ or_refuse widths
+    pub head_length : (n ≡ 12 → ⊥) → refused 2 ≡ head_answer text
+    unfolding sequence_head_of form01 due pick ◌>>=◌ or_refuse widths
     head_length h =
-        let f = frame_fits text 0 n e in
+        let f = frame_fits text 0 n (sym e) in
         let z : fields (one ∷ one ∷ one ∷ two ∷ []) (bytes_from text 2 (n / 2 - 1)) ≡ none =
         fields_none (one ∷ one ∷ one ∷ two ∷ []) (bytes_from text 2 (n / 2 - 1)) (λ q. h (omega (arith, f.even, f.least, length-bytes text 2 (n / 2 - 1), q))) in
         rw (framed, eq-eqb k 17 is, z)
@@ -61,21 +59,19 @@ module _ (text : List ℕ) (n k : ℕ) (e : line_at text 0 ≡ Frame n) (kind : 
       unfolding fields also bytes_from word_at
       numbers = rw (twelve, row, inputs, outputs, instructions)
 
-      found : SequenceHead
+      abbrev found : SequenceHead
       found = record { row = r + 1; inputs = i; outputs = o; instructions = m }
 
-      judged : head_answer text ≡ head_in (pick (numbers_fit (r + 1) i o m) (good found) (refuse 3)) 13
-      unfolding sequence_head_of form01 due pick or_refuse ◌>>=◌ numbers_fit found
+      judged : head_answer text ≡ pick (numbers_fit found) (good found) (refused 3)
+      unfolding sequence_head_of form01 due pick or_refuse ◌>>=◌
       judged =
-          let thirteen : n + 1 ≡ 13 = omega arith in
-          rw (framed, eq-eqb k 17 is, numbers, thirteen)
-          (ap (λ s. head_in s 13) (all_required (leb 2 (r + 1) && leb (r + 1) 256) (leb 1 i && leb i 64) (leb 1 o && leb o 64) (leb 1 m && leb m 1024) (ltb i (r + 1)) found))
+          rw (framed, eq-eqb k 17 is, numbers)
+          (all_required (leb 2 (r + 1) && leb (r + 1) 256) (leb 1 i && leb i 64) (leb 1 o && leb o 64) (leb 1 m && leb m 1024) (ltb i (r + 1)) found)
 
-      pub head_unfit : numbers_fit (r + 1) i o m ≡ false → Reading.Refused (record { number = 3 }) ≡ head_answer text
-      unfolding pick head_in
+      pub head_unfit : numbers_fit found ≡ false → refused 3 ≡ head_answer text
+      unfolding pick
       head_unfit h = rw (judged, h)
 
-      pub head_good : numbers_fit (r + 1) i o m ≡ true
-          → Reading.Sequence (record { row = r + 1; inputs = i; outputs = o; instructions = m; code = 13; places = 13 }) ≡ head_answer text
-      unfolding pick head_in found
+      pub head_good : numbers_fit found ≡ true → good found ≡ head_answer text
+      unfolding pick
       head_good h = rw (judged, h)

@@ -1,5 +1,6 @@
 pub mod Digits
-pub mod Turns
+pub mod Climbing
+pub mod Asked
 pub mod Judging
 pub mod Framed
 pub mod Heading

@@ -7,14 +7,14 @@ use mathlib.Core.List.{List, [], ◌∷◌}
 use lib.Dec.{eqb, ltb, leb}
 use lib.ListN.{get_or, length}
 use borrow.Author.Tests.{leb-true, lt-leb}
+use Rattle.std.specs.Prelude.{Ok}
 use Rattle.rules.specs.Basics.{pick, all, repeats, ascending}
 use Rattle.rules.specs.Form.{form01, one}
-use Rattle.rules.specs.Refusals.{good, refuse, ◌>>=◌, ◌>>◌, require, or_refuse}
+use Rattle.rules.specs.Refusals.{good, refused, ◌>>=◌, ◌>>◌, require, or_refuse}
 use Rattle.rules.specs.Lines.{fields, also}
 use Rattle.rules.specs.Netlist.{due}
 use Rattle.rules.specs.Sequence.{Instruction, Set, nor_from, set_of, nor_of, instruction_of, place_of}
 use Rattle.rules.proofs.Laws.{no_way, and_true, require_good}
-use Rattle.lines.specs.declared.Line.TheVariants.{Frame}
 use Rattle.lines.specs.Line.{line_at, byte_at, bytes_from}
 use Rattle.lines.proofs.Meaning.{frame_fits, numbers_one}
 use Rattle.row.specs.Decoded.{cells_from, end_from, nor_on, instruction_at, next_at}
@@ -46,7 +46,7 @@ module _ (row : ℕ) (l : List ℕ) (a : Instruction) where
       go [] h z = absurd (omega arith)
       go (w ∷ os) h z = cc
 
-module _ (text : List ℕ) (at n : ℕ) (e : line_at text at ≡ Frame n) where
+module _ (text : List ℕ) (at n : ℕ) (e : line_at text at ≡ Ok n) where
   -- the next line begins behind the line feed
   pub next_said : at + n + 1 ≡ next_at text at
   unfolding next_at end_from pick
@@ -55,7 +55,7 @@ module _ (text : List ℕ) (at n : ℕ) (e : line_at text at ≡ Frame n) where
       let l : length (cells_from text (at + 2)) ≡ n / 2 - 1 = ap length (line_cells text at n e) ∙ length-bytes text (at + 2) (n / 2 - 1) in
       rw (lt-leb (length text) at (omega (arith, f.inside)), l) (omega (arith, f.even, f.least))
 
-module _ (row : ℕ) (text : List ℕ) (at n : ℕ) (e : line_at text at ≡ Frame n) where
+module _ (row : ℕ) (text : List ℕ) (at n : ℕ) (e : line_at text at ≡ Ok n) where
   pub instruction_said : (a : Instruction) → instruction_of form01 row (bytes_from text at (n / 2)) ≡ good a → a ≡ instruction_at text at
   unfolding instruction_of form01 pick instruction_at
   instruction_said a g =
@@ -66,7 +66,7 @@ module _ (row : ℕ) (text : List ℕ) (at n : ℕ) (e : line_at text at ≡ Fra
       l : List ℕ
       l = bytes_from text (at + 2) (n / 2 - 1)
 
-      go : (t u : Bool) → pick t (set_of form01 row l) (pick u (nor_of form01 row l) (refuse 2)) ≡ good a → a ≡ pick t (Set l) (nor_on l)
+      go : (t u : Bool) → pick t (set_of form01 row l) (pick u (nor_of form01 row l) (refused 2)) ≡ good a → a ≡ pick t (Set l) (nor_on l)
       go true u h = set_said row l a h
       go false true h = nor_said row l a h
       go false false h = absurd (no_way (cc))
@@ -76,7 +76,7 @@ module _ (row : ℕ) (text : List ℕ) (at n : ℕ) (e : line_at text at ≡ Fra
   place_bytes p m a g = go (eqb (byte_at text at) 20) m g
     where
       go : (t : Bool) (m : ℕ)
-          → (pick t (good (bytes_from text p m)) (refuse 2)
+          → (pick t (good (bytes_from text p m)) (refused 2)
           >>= (λ l. or_refuse 2 (fields (one ∷ []) l) >>= (λ ns. require (ltb (get_or ns 0 0) row) 12 >> good (get_or ns 0 0)))) ≡ good a
           → (m ≡ 1) × (a ≡ byte_at text p)
       go false m h = absurd (no_way (cc))

@@ -1,16 +1,14 @@
 -- A sequence where it stands in a text: instructions and places decoded line by line, without a check, and what a reading says.
 -- Assumes nothing.
-use Rattle.std.specs.Prelude.{ℕ, zero, suc, ◌+◌, ◌*◌, List, [], ◌∷◌, eqb, leb, length, drop}
+use Rattle.std.specs.Prelude.{ℕ, zero, suc, ◌+◌, ◌*◌, List, [], ◌∷◌, Option, Some, None, Result, eqb, leb, length, drop}
 use Rattle.rules.specs.declared.Refusal.{Refusal}
 use Rattle.rules.specs.Basics.{pick}
-use Rattle.rules.specs.Refusals.{Res, good, refused}
+use Rattle.rules.specs.Refusals.{Res, meaning_by}
 use Rattle.rules.specs.Lines.{value_of}
 use Rattle.rules.specs.Sequence as rules
 use Rattle.rules.specs.Sequence.{Set, Nor}
 use Rattle.lines.specs.Line.{byte_at}
-use Rattle.row.specs.declared.Entry.{Entry}
 use Rattle.row.specs.declared.Head.{Head}
-use Rattle.row.specs.declared.Reading.{Reading}
 
 -- ---- the cells of a line
 
@@ -24,11 +22,11 @@ cells_in (h ∷ l ∷ t) = pick (eqb h 10) [] ((16 * value_of h + value_of l) �
 unfoldable pub cells_from : List ℕ → ℕ → List ℕ
 cells_from text at = cells_in (drop at text)
 
-unfoldable pub first_of : List ℕ → Entry
-first_of [] = Entry.End
-first_of (c ∷ cs) = Entry.Cell c
+unfoldable pub first_of : List ℕ → Option ℕ
+first_of [] = None
+first_of (c ∷ cs) = Some c
 
-unfoldable pub cell_at : List ℕ → ℕ → Entry
+unfoldable pub cell_at : List ℕ → ℕ → Option ℕ
 cell_at text at = first_of (cells_from text at)
 
 unfoldable pub end_from : List ℕ → ℕ → ℕ
@@ -76,10 +74,5 @@ sequence_at text h = record {
   places = places_at text h.places h.outputs;
 }
 
-unfoldable pub sequence_in : List ℕ → Reading → Res rules.Sequence
-sequence_in text (Reading.Sequence h) = good (sequence_at text h)
-sequence_in text (Reading.Refused r) = refused r
-
-abbrev pub refusal_in : Reading → Refusal
-refusal_in (Reading.Sequence h) = record { number = 0 }
-refusal_in (Reading.Refused r) = r
+abbrev pub sequence_in : List ℕ → Result Head Refusal → Res rules.Sequence
+sequence_in text r = meaning_by (sequence_at text) r

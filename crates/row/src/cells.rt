@@ -1,79 +1,90 @@
-// Questions about k cells whose digits stand in a text from a place on.
-ghost use Rattle.std.specs.Prelude.{◌≡◌, not, ◌+◌, ◌*◌, ◌≤◌, ltb, eqb, length, drop};
+// The cells of a line: so many, whose digits stand in a text from a place on. In contracts they are the list of their numbers.
+ghost use Rattle.std.specs.Prelude.{◌≡◌, not, ℕ, List, ◌+◌, ◌*◌, ◌<◌, ◌≤◌, ltb, eqb, get_or, length, drop};
 ghost use Rattle.rules.specs.Basics.{all, mem, repeats, ascending};
 ghost use Rattle.rules.specs.Lines.{digits};
-ghost use Rattle.lines.specs.Line.{byte_at, bytes_from};
+ghost use Rattle.lines.specs.Line.{bytes_from};
 
-// Whether they ascend strictly.
-pub(crate) fn ascends(text: &[u8], first: usize, k: usize) -> bool
-    requires { (1 ≤ k) × (first + 2 * k ≤ length text.now) }
-    ensures { result ≡ ascending (bytes_from text.now first k) }
-{
-    let mut last = lines::byte_at(text, first);
-    let mut j = 1;
-    while j < k {
-        let c = lines::byte_at(text, first + 2 * j);
-        if c <= last {
-            return false;
-        }
-        last = c;
-        j += 1;
-    }
-    true
+use std::marker::Model;
+
+#[derive(Drop)]
+pub(crate) struct Cells<'a> {
+    pub text: &'a [u8],
+    pub first: usize,
+    pub count: usize,
 }
 
-// Whether each is below the row size.
-pub(crate) fn all_below(text: &[u8], first: usize, k: usize, row: usize) -> bool
-    requires { first + 2 * k ≤ length text.now }
-    ensures { result ≡ all (λ c. ltb c row) (bytes_from text.now first k) }
-{
-    let mut j = 0;
-    while j < k {
-        if row <= lines::byte_at(text, first + 2 * j) {
-            return false;
-        }
-        j += 1;
-    }
-    true
+impl<'a> Model for Cells<'a> {
+    ghost Value = { List ℕ };
+
+    ghost view = { λ s. bytes_from s.text.now s.first s.count };
+
+    ghost invariant = { λ s. (s.first + 2 * s.count ≤ length s.text.now) × (2 * s.count ≤ digits (drop s.first s.text.now)) };
 }
 
-// Whether two cells are the same, by their digits.
-fn alike(text: &[u8], a: usize, b: usize) -> bool
-    requires { (2 ≤ digits (drop a text.now)) × (2 ≤ digits (drop b text.now)) }
-    ensures { result ≡ eqb (byte_at text.now a) (byte_at text.now b) }
-{
-    if text[a] != text[b] {
-        return false;
+impl Cells<'_> {
+    // How many there are.
+    pub(crate) fn len(&self) -> usize
+        ensures { result ≡ length self.now }
+    {
+        self.count
     }
-    text[a + 1] == text[b + 1]
-}
 
-// Whether the cell at a place is one of them.
-fn names(text: &[u8], first: usize, k: usize, at: usize) -> bool
-    requires { (2 ≤ digits (drop at text.now)) × (2 * k ≤ digits (drop first text.now)) }
-    ensures { result ≡ mem (byte_at text.now at) (bytes_from text.now first k) }
-{
-    let mut j = 0;
-    while j < k {
-        if alike(text, at, first + 2 * j) {
-            return true;
-        }
-        j += 1;
+    // Cell j.
+    #[tactic(auto, using(crate::proofs::Digits::cell_inside))]
+    pub(crate) fn cell(&self, j: usize) -> usize
+        requires { j < length self.now }
+        ensures { result ≡ get_or self.now j 0 }
+    {
+        lines::byte_at(self.text, self.first + 2 * j)
     }
-    false
-}
 
-// Whether they all differ.
-pub(crate) fn differ(text: &[u8], first: usize, k: usize) -> bool
-    requires { 2 * k ≤ digits (drop first text.now) }
-    ensures { result ≡ not (repeats (bytes_from text.now first k)) }
-{
-    let mut j = 0;
-    while j < k {
-        if names(text, first + 2 * (j + 1), k - (j + 1), first + 2 * j) {
-            return false;
+    // Whether they ascend strictly.
+    pub(crate) fn ascend(&self) -> bool
+        requires { 1 ≤ length self.now }
+        ensures { result ≡ ascending self.now }
+    {
+        let mut last = self.cell(0);
+        for j in 1..self.len() {
+            let c = self.cell(j);
+            if c <= last {
+                return false;
+            }
+            last = c;
         }
-        j += 1;
+        true
     }
-    true
+
+    // Whether each is below the row size.
+    pub(crate) fn all_below(&self, row: usize) -> bool
+        ensures { result ≡ all (λ c. ltb c row) self.now }
+    {
+        (0..self.len()).all(|j| self.cell(j) < row)
+    }
+
+    // Whether two of them are the same, by their digits.
+    #[tactic(auto, using(crate::proofs::Digits::cell_inside))]
+    fn alike(&self, i: usize, j: usize) -> bool
+        requires { (i < length self.now) × (j < length self.now) }
+        ensures { result ≡ eqb (get_or self.now i 0) (get_or self.now j 0) }
+    {
+        let a = self.first + 2 * i;
+        let b = self.first + 2 * j;
+        self.text[a] == self.text[b] && self.text[a + 1] == self.text[b + 1]
+    }
+
+    // Whether cell i stands among those after it.
+    fn comes_again(&self, i: usize) -> bool
+        requires { i < length self.now }
+        ensures { result ≡ mem (get_or self.now i 0) (drop (i + 1) self.now) }
+    {
+        let count = self.len();
+        (i + 1..count).any(|j| self.alike(i, j))
+    }
+
+    // Whether they all differ.
+    pub(crate) fn differ(&self) -> bool
+        ensures { result ≡ not (repeats self.now) }
+    {
+        !(0..self.len()).any(|i| self.comes_again(i))
+    }
 }

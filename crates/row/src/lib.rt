@@ -5,9 +5,9 @@ ghost use Rattle.std.specs.Prelude.{◌≡◌};
 ghost use Rattle.rules.specs.Form.{form01};
 ghost use Rattle.rules.specs.Sequence.{sequence_of};
 ghost use Rattle.rules.specs.Calls.{outcome_of, simulate_outcome};
-ghost use Rattle.row.specs.Decoded.{cell_at, sequence_in, refusal_in};
+ghost use Rattle.row.specs.Decoded.{cell_at, sequence_in};
 
-use rules::{Answer, Refusal};
+use rules::Refusal;
 
 mod cells;
 mod device;
@@ -24,88 +24,54 @@ pub struct Head {
     pub places: usize,
 }
 
-// What reading a text answers.
-#[derive(Clone, Copy)]
-pub enum Reading {
-    Sequence(Head),
-    Refused(Refusal),
-}
-
-// What stands at a place of an instruction's line: the cell whose digits stand there, or the line's end.
-#[derive(Clone, Copy)]
-pub enum Entry {
-    Cell(usize),
-    End,
-}
-
-// The refusal of a text that is no sequence.
-pub fn refusal(r: Reading) -> Refusal
-    ensures { result ≡ refusal_in r }
-{
-    match r {
-        Reading::Sequence(_) => Refusal { number: 0 },
-        Reading::Refused(n) => n,
-    }
-}
-
-// A line's cells stand two digits each from the place after its kind on, up to the line's end; the next line begins one place further.
-pub fn cell_at(text: &[u8], at: usize) -> Entry
+// The cell whose digits stand at a place, up to the line's end: cells stand two digits each from the place after the line's kind on.
+pub fn cell_at(text: &[u8], at: usize) -> Option<usize>
     ensures { result ≡ cell_at text.now at }
 {
-    if text.len() <= at {
-        return Entry::End;
+    if text.len() <= at || text.len() - at < 2 || text[at] == b'\n' {
+        return None;
     }
-    if text.len() - at < 2 {
-        return Entry::End;
-    }
-    if text[at] == b'\n' {
-        return Entry::End;
-    }
-    Entry::Cell(lines::byte_at(text, at))
+    Some(lines::byte_at(text, at))
 }
 
 // The sequence reader.
-pub fn read(text: &[u8]) -> Reading
+pub fn read(text: &[u8]) -> Result<Head, Refusal>
     ensures { sequence_in text.now result ≡ sequence_of form01 text.now }
 {
     let l = frames::head_line(text);
-    let Reading::Sequence(h) = l else {
-        return l;
+    let Ok(head) = l else {
+        return Err(l.unwrap_err());
     };
-    let is = frames::instruction_lines(text, h.code, h.instructions, h.row);
-    let Answer::Given(places) = is else {
-        return Reading::Refused(frames::refusal(is));
-    };
-    let ps = frames::place_lines(text, places, h.outputs, h.row);
-    let Answer::Given(end) = ps else {
-        return Reading::Refused(frames::refusal(ps));
-    };
-    let e = lines::ends(text, end);
-    let Answer::Given(_) = e else {
-        return Reading::Refused(frames::refusal(e));
-    };
-    Reading::Sequence(Head {
-        row: h.row,
-        inputs: h.inputs,
-        outputs: h.outputs,
-        instructions: h.instructions,
-        code: h.code,
-        places: places,
+    let places = frames::each_line(
+        |at| frames::instruction_line(text, at, head.row),
+        frames::CODE,
+        head.instructions,
+    )?;
+    let end = frames::each_line(
+        |at| frames::place_line(text, at, head.row),
+        places,
+        head.outputs,
+    )?;
+    lines::ends(text, end)?;
+    Ok(Head {
+        row: head.row,
+        inputs: head.inputs,
+        outputs: head.outputs,
+        instructions: head.instructions,
+        code: frames::CODE,
+        places,
     })
 }
 
 // The simulator: the answer is the number of cycles run, the smaller of the budget and the instruction count, and the row is the row after exactly those.
-pub fn simulate(text: &[u8], row: &mut [u8], budget: usize) -> Answer
+pub fn simulate(text: &[u8], row: &mut [u8], budget: usize) -> Result<usize, Refusal>
     ensures { outcome_of result row.new ≡ simulate_outcome text.now row.old budget }
 {
-    let s = read(text);
-    let Reading::Sequence(h) = s else {
-        return Answer::Refused(refusal(s));
-    };
-    if !slices::are_bits(row, h.row) {
-        return Answer::Refused(Refusal { number: 17 });
+    let head = read(text)?;
+    if !slices::are_bits(row, head.row) {
+        return Err(Refusal::NotBits);
     }
-    let cycles = device::smaller(budget, h.instructions);
-    device::run(text, h.code, row, cycles);
-    Answer::Given(cycles)
+    let cycles = budget.min(head.instructions);
+    device::run(text, head.code, row, cycles);
+    Ok(cycles)
 }

@@ -1,25 +1,23 @@
 -- What stands in the buffer is what the mapping program prints.
 use Prim.Native.Nat.{ℕ, ◌<◌, ◌≤◌}
-use mathlib.Core.Path.{◌≡◌, refl, ap, ◌∙◌}
+use mathlib.Core.Path.{◌≡◌, refl, ap}
 use mathlib.Core.Bool.{Bool, true, false}
 use mathlib.Core.List.{List, ◌++◌}
 use lib.Dec.{ltb}
 use lib.ListN.{length, drop}
 use lib.Seq.{sets}
 use borrow.Author.Tests.{lt-ltb, le-ltb, ltb-false}
+use Rattle.std.specs.Prelude.{Ok, Err}
 use Rattle.rules.specs.declared.Refusal.{Refusal}
-use Rattle.rules.specs.declared.Answer.{Answer}
 use Rattle.rules.specs.Basics.{pick}
 use Rattle.rules.specs.Form.{form01}
-use Rattle.rules.specs.Refusals.{Res, good, refused, refuse, meaning}
+use Rattle.rules.specs.Refusals.{Res, good, refused, number_of}
 use Rattle.rules.specs.Lines.{written}
-use Rattle.rules.specs.Mapping.{mapped_text}
 use Rattle.rules.specs.Programs.{refusal_line, printed, held, mapping_answer, mapping_program}
 use Rattle.rules.specs.Calls.{Outcome, delivered, map_outcome, rowmap_output}
 use Rattle.rules.proofs.Laws.{no_way}
 use Rattle.rules.proofs.Lists.{sets_front}
-use Rattle.rowmap.specs.declared.job.Job.{Job}
-use Rattle.rowmap.specs.Job.{job_at, refused_by}
+use Rattle.rowmap.specs.Job.{job_at}
 use Rattle.rowmap.specs.Printed.{printed_in, rowmap_in}
 use Rattle.rowmap.proofs.Jobs.{answer_of, job_means}
 
@@ -32,7 +30,7 @@ whole input = go (held input (mapping_answer form01 input))
     go (good t) = refl
     go (refused r) = refl
 
--- ---- what map delivers
+-- ---- what is delivered
 
 module _ (out out' : List ℕ) where
   delivered_given : (R : Res (List ℕ)) (n : ℕ) → ◌≡◌ {A = Outcome} (record { answer = good n; lent = out' }) (delivered R out)
@@ -42,8 +40,8 @@ module _ (out out' : List ℕ) where
   delivered_given (good t) n e = go (ltb (length out) (length t)) refl e
     where
       go : (u : Bool) → ltb (length out) (length t) ≡ u
-          → ◌≡◌ {A = Outcome} (record { answer = good n; lent = out' }) (pick u (record { answer = refuse 10; lent = out }) (record { answer = good (length t); lent = t ++ drop (length t) out }))
-          → (n ≡ length (pick u (refusal_line (record { number = 10 })) t)) × (out' ≡ sets out 0 (pick u (refusal_line (record { number = 10 })) t))
+          → ◌≡◌ {A = Outcome} (record { answer = good n; lent = out' }) (pick u (record { answer = refused 10; lent = out }) (record { answer = good (length t); lent = t ++ drop (length t) out }))
+          → (n ≡ length (pick u (refusal_line 10) t)) × (out' ≡ sets out 0 (pick u (refusal_line 10) t))
       go true q f = absurd (no_way (let z = ap (λ (o : Outcome). o.answer) f in cc))
       go false q f =
           let z = ap (λ (o : Outcome). o.answer) f in
@@ -52,7 +50,7 @@ module _ (out out' : List ℕ) where
           let h = ltb-false (length out) (length t) q in
           (m, rw (sets_front t out h) l)
 
-  delivered_refused : (R : Res (List ℕ)) (r : Refusal) → ◌≡◌ {A = Outcome} (record { answer = refused r; lent = out' }) (delivered R out)
+  delivered_refused : (R : Res (List ℕ)) (r : ℕ) → ◌≡◌ {A = Outcome} (record { answer = refused r; lent = out' }) (delivered R out)
       → (out' ≡ out) × (printed_in (length out) R ≡ refusal_line r)
   unfolding delivered printed_in pick
   delivered_refused (refused x) r e =
@@ -62,56 +60,61 @@ module _ (out out' : List ℕ) where
   delivered_refused (good t) r e = go (ltb (length out) (length t)) e
     where
       go : (u : Bool)
-          → ◌≡◌ {A = Outcome} (record { answer = refused r; lent = out' }) (pick u (record { answer = refuse 10; lent = out }) (record { answer = good (length t); lent = t ++ drop (length t) out }))
-          → (out' ≡ out) × (pick u (refusal_line (record { number = 10 })) t ≡ refusal_line r)
+          → ◌≡◌ {A = Outcome} (record { answer = refused r; lent = out' }) (pick u (record { answer = refused 10; lent = out }) (record { answer = good (length t); lent = t ++ drop (length t) out }))
+          → (out' ≡ out) × (pick u (refusal_line 10) t ≡ refusal_line r)
       go true f =
           let z = ap (λ (o : Outcome). o.answer) f in
-          let w : record { number = 10 } ≡ r = cc in
+          let w : 10 ≡ r = cc in
           (ap (λ (o : Outcome). o.lent) f, ap refusal_line w)
       go false f = absurd (no_way (let z = ap (λ (o : Outcome). o.answer) f in cc))
 
 -- ---- what is printed
 
+pub printed_most : (size : ℕ) (input : List ℕ) → 5 ≤ size → length (rowmap_in size input) ≤ size
+unfolding rowmap_in printed_in refusal_line written pick
+printed_most size input h = go (held input (mapping_answer form01 input))
+  where
+    go : (R : Res (List ℕ)) → length (printed_in size R) ≤ size
+    go (refused r) = h
+    go (good t) = pick_most (ltb size (length t)) refl
+      where
+        pick_most : (u : Bool) → ltb size (length t) ≡ u → length (pick u (refusal_line 10) t) ≤ size
+        pick_most true e = h
+        pick_most false e = ltb-false size (length t) e
+
+line_long : (r : ℕ) → 5 ≡ length (refusal_line r)
+unfolding refusal_line written
+line_long r = refl
+
 module _ (input out : List ℕ) where
-  -- the answer is the length of what is printed, and the buffer begins with it
-  abbrev pub Prints : ℕ → List ℕ → Type 0
-  Prints n out' = (n ≡ length (rowmap_in (length out) input)) × (out' ≡ sets out 0 (rowmap_in (length out) input))
-
-  line_long : (r : Refusal) → 5 ≡ length (refusal_line r)
-  unfolding refusal_line written
-  line_long r = refl
-
-  prints_line : (r : Refusal) (out' : List ℕ) → rowmap_in (length out) input ≡ refusal_line r → out' ≡ sets out 0 (refusal_line r) → Prints 5 out'
-  prints_line r out' z p = (rw z (line_long r), rw z p)
-
-  pub prints_long : (out' : List ℕ) → 65536 < length input → out' ≡ sets out 0 (refusal_line (record { number = 1 })) → Prints 5 out'
-  unfolding rowmap_in printed_in held pick
-  prints_long out' h p = prints_line (record { number = 1 }) out' (rw (lt-ltb 65536 (length input) h)) p
+  -- a longer input, a job line that is bad, and what map answers
+  pub answer_long : 65536 < length input → ◌≡◌ {A = Outcome} (record { answer = refused 1; lent = out }) (delivered (held input (mapping_answer form01 input)) out)
+  unfolding delivered held pick
+  answer_long h = rw (lt-ltb 65536 (length input) h)
 
   module _ (h : length input ≤ 65536) where
-    told_is : rowmap_in (length out) input ≡ printed_in (length out) (answer_of input (job_at input))
-    unfolding rowmap_in held pick
-    told_is = rw (le-ltb 65536 (length input) h) (ap (printed_in (length out)) (job_means input))
+    held_is : held input (mapping_answer form01 input) ≡ answer_of input (job_at input)
+    unfolding held pick
+    held_is = rw (le-ltb 65536 (length input) h) (job_means input)
 
-    pub prints_refused : (j : Job) (x r : Refusal) (out' : List ℕ) → j ≡ job_at input → j ≡ Job.Refused x → r ≡ refused_by j → out' ≡ sets out 0 (refusal_line r) → Prints 5 out'
-    unfolding answer_of printed_in
-    prints_refused j x r out' e f g p = prints_line r out' (told_is ∙ rw (← e, f, g ∙ ap refused_by f)) p
+    pub answer_bad : (r : Refusal) → Err r ≡ job_at input
+        → ◌≡◌ {A = Outcome} (record { answer = refused (number_of r); lent = out }) (delivered (held input (mapping_answer form01 input)) out)
+    unfolding delivered answer_of
+    answer_bad r e = rw (held_is, ← e)
 
-    module _ (j : Job) (row : ℕ) (e : j ≡ job_at input) (f : j ≡ Job.Row row) (a : Answer) (text out' : List ℕ) (behind : text ≡ drop 5 input)
-        (given : ◌≡◌ {A = Outcome} (record { answer = meaning a; lent = out' }) (map_outcome row text out)) where
-      mapped : ◌≡◌ {A = Outcome} (record { answer = meaning a; lent = out' }) (map_outcome row (drop 5 input) out)
-      mapped = rw behind at given
+    pub answer_mapped : (row : ℕ) → Ok row ≡ job_at input → map_outcome row (drop 5 input) out ≡ delivered (held input (mapping_answer form01 input)) out
+    unfolding map_outcome answer_of
+    answer_mapped row e = rw (held_is, ← e)
 
-      row_told : rowmap_in (length out) input ≡ printed_in (length out) (mapped_text form01 row (drop 5 input))
-      unfolding answer_of
-      row_told = told_is ∙ rw (← e, f)
+  module _ (out' : List ℕ) where
+    pub prints_text : (n : ℕ) → ◌≡◌ {A = Outcome} (record { answer = good n; lent = out' }) (delivered (held input (mapping_answer form01 input)) out)
+        → (n ≡ length (rowmap_in (length out) input)) × (out' ≡ sets out 0 (rowmap_in (length out) input))
+    unfolding rowmap_in
+    prints_text n e = delivered_given out out' (held input (mapping_answer form01 input)) n e
 
-      pub prints_mapped : (n : ℕ) → a ≡ Answer.Given n → Prints n out'
-      unfolding map_outcome
-      prints_mapped n g = rw row_told (delivered_given out out' (mapped_text form01 row (drop 5 input)) n (rw g at mapped))
-
-      pub prints_told : (r : Refusal) (out₂ : List ℕ) → a ≡ Answer.Refused r → out₂ ≡ sets out' 0 (refusal_line r) → Prints 5 out₂
-      unfolding map_outcome
-      prints_told r out₂ g p =
-          let (kept, said) = delivered_refused out out' (mapped_text form01 row (drop 5 input)) r (rw g at mapped) in
-          prints_line r out₂ (row_told ∙ said) (rw kept at p)
+    pub prints_refusal : (r : ℕ) {out₂ : List ℕ} → ◌≡◌ {A = Outcome} (record { answer = refused r; lent = out' }) (delivered (held input (mapping_answer form01 input)) out)
+        → out₂ ≡ sets out' 0 (refusal_line r) → (5 ≡ length (rowmap_in (length out) input)) × (out₂ ≡ sets out 0 (rowmap_in (length out) input))
+    unfolding rowmap_in
+    prints_refusal r e p =
+        let (kept, said) = delivered_refused out out' (held input (mapping_answer form01 input)) r e in
+        (rw said (line_long r), rw said (rw kept at p))

@@ -9,7 +9,7 @@ use Rattle.rules.specs.Programs.{refusal_line, held, mapping_answer}
 -- a longer output prints 1F0A alone
 unfoldable pub printed_in : ℕ → Res (List ℕ) → List ℕ
 unfolding pick refusal_line
-printed_in size (good text) = pick (ltb size (length text)) (refusal_line (record { number = 10 })) text
+printed_in size (good text) = pick (ltb size (length text)) (refusal_line 10) text
 printed_in size (refused r) = refusal_line r
 
 unfoldable pub rowmap_in : ℕ → List ℕ → List ℕ

@@ -1,66 +1,53 @@
 // From the bytes of standard input to the bytes of standard output.
-ghost use Rattle.std.specs.Prelude.{◌≡◌, length};
+ghost use Rattle.std.specs.Prelude.{◌≡◌, ◌≤◌, length};
 ghost use Rattle.std.proofs.lemmas.List.Edits.{sets};
-ghost use Rattle.rowmap.specs.Job.{job_at, refused_by};
+ghost use Rattle.rules.specs.Form.{form01};
+ghost use Rattle.rules.specs.Programs.{held, mapping_answer};
+ghost use Rattle.rules.specs.Calls.{outcome_of, delivered};
+ghost use Rattle.rowmap.specs.Job.{job_at};
 ghost use Rattle.rowmap.specs.Printed.{rowmap_in};
 
-use lines::Line;
-use rules::{Answer, Refusal};
+use lines::kind::Kind;
+use rules::Refusal;
 
-// The job line: the row that it asks for, or its refusal.
-#[derive(Clone, Copy)]
-pub enum Job {
-    Row(usize),
-    Refused(Refusal),
-}
-
-// The refusal of an input that begins with no job line.
-fn refusal(j: Job) -> Refusal
-    ensures { result ≡ refused_by j }
-{
-    match j {
-        Job::Row(_) => Refusal { number: 0 },
-        Job::Refused(r) => r,
-    }
-}
-
-// The job line at the front of an input.
-#[tactic(auto, using(crate::proofs::Jobs::job_other))]
-fn read_job(input: &[u8]) -> Job
+// The row that the job line at the front of an input asks for.
+#[tactic(auto, using(lines::proofs::Laws::byte_small, crate::proofs::Jobs::job_not, crate::proofs::Jobs::job_other, crate::proofs::Jobs::job_size, crate::proofs::Jobs::job_row))]
+fn read_job(input: &[u8]) -> Result<usize, Refusal>
     ensures { result ≡ job_at input.now }
 {
     let l = lines::read_line(input, 0);
-    let Line::Frame(n) = l else {
-        return Job::Refused(lines::refusal(l));
+    let Ok(n) = l else {
+        return l;
     };
-    if lines::byte_at(input, 0) != 15 {
-        return Job::Refused(Refusal { number: 2 });
+    if lines::byte_at(input, 0) != Kind::Job as usize || n != 4 {
+        return Err(Refusal::WrongFrame);
     }
-    if n != 4 {
-        return Job::Refused(Refusal { number: 2 });
+    Ok(lines::byte_at(input, 2) + 1)
+}
+
+// The sequence for an input in the first bytes of a buffer: its length.
+fn mapped(input: &[u8], out: &mut [u8]) -> Result<usize, Refusal>
+    ensures { outcome_of result out.new ≡ delivered (held input.now (mapping_answer form01 input.now)) out.old }
+{
+    if 65536 < input.len() {
+        return Err(Refusal::BadLine);
     }
-    Job::Row(lines::byte_at(input, 2) + 1)
+    let j = read_job(input);
+    let Ok(row) = j else {
+        return j;
+    };
+    mapper::map(row, slices::rest(input, 5), out)
 }
 
 // What the mapping program prints with a buffer of so many bytes stands in its first bytes, and the answer is its length.
 pub(crate) fn program(input: &[u8], out: &mut [u8]) -> usize
-    ensures { (result ≡ length (rowmap_in (length out.old) input.now))
-        × (out.new ≡ sets out.old 0 (rowmap_in (length out.old) input.now)) }
+    ensures within { 5 ≤ length out.old → result ≤ length out.old }
+    ensures long { result ≡ length (rowmap_in (length out.old) input.now) }
+    ensures printed { out.new ≡ sets out.old 0 (rowmap_in (length out.old) input.now) }
 {
-    if 65536 < input.len() {
-        lines::write::put_refusal(out, Refusal { number: 1 });
-        return 5;
-    }
-    let j = read_job(input);
-    let Job::Row(row) = j else {
-        lines::write::put_refusal(out, refusal(j));
-        return 5;
-    };
-    let netlist = slices::rest8(input, 5);
-    let a = mapper::map(row, netlist, out);
-    match a {
-        Answer::Given(n) => n,
-        Answer::Refused(r) => {
+    match mapped(input, out) {
+        Ok(n) => n,
+        Err(r) => {
             lines::write::put_refusal(out, r);
             5
         }

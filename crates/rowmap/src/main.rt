@@ -3,17 +3,11 @@
 
 mod job;
 
-fn show(out: &[u8], n: usize) {
-    if n <= out.len() {
-        io::write_all(1, &out[..n]);
-    }
-}
-
 // Prints the sequence for an input, or the refusal.
 fn answer(input: &[u8]) {
     let mut out = io::large_buffer();
     let n = job::program(input, &mut out);
-    show(&out, n);
+    io::write_all(1, &out[..n]);
 }
 
 // One byte more than a program holds is enough to know that the input is too long.

@@ -1,11 +1,8 @@
 -- Document 01, "Bench sheet": P1 to P12 as one table, proved by computing. Texts are written as the document prints them.
 -- Assumes nothing.
-use Prim.Native.Nat.{ℕ}
-use mathlib.Core.Path.{◌≡◌, refl}
-use mathlib.Core.List.{List, [], ◌∷◌, ◌++◌}
-use lib.ListN.{length, drop, get_or, replicate}
+use Rattle.std.proofs.Common.{ℕ, ◌≡◌, refl, List, [], ◌∷◌, ◌++◌, length, drop, get_or, replicate}
 use Rattle.rules.specs.Form.{form01}
-use Rattle.rules.specs.Refusals.{Res, good, refuse, ◌>>=◌}
+use Rattle.rules.specs.Refusals.{Res, good, refused, ◌>>=◌}
 use Rattle.rules.specs.Netlist.{Netlist, netlist_of}
 use Rattle.rules.specs.Sequence.{sequence_of}
 use Rattle.rules.specs.Weight.{weights}
@@ -58,14 +55,14 @@ pub record BenchSheet : Type 0 where
   -- the same with budget 4: 1 0 0 0 1
   pub p8 : simulate_outcome xor_sequence (1 ∷ 0 ∷ 0 ∷ 0 ∷ 0 ∷ []) 4 ≡ gives 4 (1 ∷ 0 ∷ 0 ∷ 0 ∷ 1 ∷ [])
   -- without line 1202 and with count 7 the checker says 14; row 1 1 0 0 0 ends with cell 3 at 1, wrong
-  pub p9 : (check_outcome xor_netlist without_set ≡ refuse 14) × (get_or (simulate_outcome without_set (1 ∷ 1 ∷ 0 ∷ 0 ∷ 0 ∷ []) 7).lent 3 0 ≡ 1)
+  pub p9 : (check_outcome xor_netlist without_set ≡ refused 14) × (get_or (simulate_outcome without_set (1 ∷ 1 ∷ 0 ∷ 0 ∷ 0 ∷ []) 7).lent 3 0 ≡ 1)
       × (get_or (simulate_outcome xor_sequence (1 ∷ 1 ∷ 0 ∷ 0 ∷ 0 ∷ []) 8).lent 3 1 ≡ 0)
   -- with 1402 last: 16
-  pub p10 : check_outcome xor_netlist wrong_place ≡ refuse 16
+  pub p10 : check_outcome xor_netlist wrong_place ≡ refused 16
   -- one input, one NOT (0101000101, 020000, 030001), row 2: 110101010002, 1201, 130100, 1401
   pub p11 : rowmap_output (chars "0F01\n0101000101\n020000\n030001\n") ≡ chars "110101010002\n1201\n130100\n1401\n"
   -- empty text: 2
-  pub p12 : (netlist_of form01 [] ≡ refuse 2) × (sequence_of form01 [] ≡ refuse 2) × (rowmap_output [] ≡ chars "1F02\n")
+  pub p12 : (netlist_of form01 [] ≡ refused 2) × (sequence_of form01 [] ≡ refused 2) × (rowmap_output [] ≡ chars "1F02\n")
       × (rowcheck_output [] ≡ chars "1F02\n")
 
 pub bench : BenchSheet

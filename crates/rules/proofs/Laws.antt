@@ -1,13 +1,13 @@
 -- Laws of choice, refusals, membership and search, for every proof above these definitions.
-use Prim.Native.Nat.{ℕ, suc, ◌+◌, ◌<◌}
-use native.Mathlib.Omega.{arith}
-use mathlib.Core.Path.{◌≡◌, refl, sym, ◌∙◌}
-use mathlib.Core.Bool.{Bool, true, false, ◌&&◌, ◌||◌}
-use mathlib.Core.List.{List, [], ◌∷◌, ◌++◌}
+use Rattle.std.proofs.Common.{ℕ, suc, ◌+◌, ◌<◌, arith, ◌≡◌, refl, sym, ap, ◌∙◌, Bool, true, false, ◌||◌, List, [], ◌∷◌, ◌++◌, eqb, eqb-true, eq-eqb, ne_eqb, get_or, length}
+use mathlib.Core.Bool.{or_assoc, or_comm, or-false}
+use Rattle.std.proofs.lemmas.List.Folds.{list_any-append}
+use Rattle.std.specs.List.{list_any}
+use Rattle.std.proofs.lemmas.Bool.{and_parts}
+-- under the names that crates above cite
+pub use Rattle.std.proofs.lemmas.Bool.{or_parts as or_false, and_parts as and_true, or_left, or_right}
 use mathlib.Core.Option.{Option, none, some}
-use lib.Dec.{eqb}
-use borrow.Author.Tests.{eqb-true, eqb-false, eq-eqb, ne_eqb}
-use lib.ListN.{get_or, length}
+use borrow.Author.Tests.{eqb-false}
 use Rattle.rules.specs.Basics.{pick, mem, same_list}
 use Rattle.rules.specs.Refusals.{Res, good, refused, ◌>>=◌, ◌>>◌, require, or_refuse}
 use Rattle.rules.specs.Book.{gate_with}
@@ -25,25 +25,8 @@ unfolding pick
 by_pick P true f g = f refl
 by_pick P false f g = g refl
 
-pub or_false : (a b : Bool) → (a || b) ≡ false → (a ≡ false) × (b ≡ false)
-or_false true b e = absurd (no_way (cc))
-or_false false b e = (refl, e)
-
-pub and_true : (a b : Bool) → (a && b) ≡ true → (a ≡ true) × (b ≡ true)
-and_true true b e = (refl, e)
-and_true false b e = absurd (no_way (cc))
-
-pub or_left : (a b : Bool) → a ≡ true → (a || b) ≡ true
-or_left true b e = refl
-or_left false b e = cc
-
-pub or_right : (a b : Bool) → b ≡ true → (a || b) ≡ true
-or_right true b e = refl
-or_right false b e = e
-
-pub or_none : (a b : Bool) → a ≡ false → b ≡ false → (a || b) ≡ false
-or_none true b e f = cc
-or_none false b e f = f
+pub or_swap : (a b c : Bool) → (a || (b || c)) ≡ (b || (a || c))
+or_swap a b c = sym (or_assoc a b c) ∙ ap (λ (t : Bool). t || c) (or_comm a b) ∙ or_assoc b a c
 
 -- ---- refusals
 
@@ -51,22 +34,22 @@ or_none false b e f = f
 pub bind_good : {A B : Type 0} (r : Res A) (k : A → Res B) (y : B) → (r >>= k) ≡ good y → (x : A) × (r ≡ good x) × (k x ≡ good y)
 unfolding ◌>>=◌
 bind_good (good a) k y e = (a, refl, e)
-bind_good (refused n) k y e = absurd (no_way (cc))
+bind_good (refused n) k y e = cc
 
 pub then_good : {A B : Type 0} (r : Res A) (k : Res B) (y : B) → (r >> k) ≡ good y → (x : A) × (r ≡ good x) × (k ≡ good y)
 unfolding ◌>>◌
 then_good (good a) k y e = (a, refl, e)
-then_good (refused n) k y e = absurd (no_way (cc))
+then_good (refused n) k y e = cc
 
 -- what was required held, and the rest was good
 pub require_good : {B : Type 0} (t : Bool) (n : ℕ) (k : Res B) (y : B) → (require t n >> k) ≡ good y → (t ≡ true) × (k ≡ good y)
 unfolding ◌>>◌ require
 require_good true n k y e = (refl, e)
-require_good false n k y e = absurd (no_way (cc))
+require_good false n k y e = cc
 
 pub or_refuse_good : {A : Type 0} (n : ℕ) (o : Option A) (a : A) → or_refuse n o ≡ good a → o ≡ some a
 unfolding or_refuse
-or_refuse_good n none a e = absurd (no_way (cc))
+or_refuse_good n none a e = cc
 or_refuse_good n (some b) a e = cc
 
 -- ---- lists of numbers that are the same
@@ -77,7 +60,7 @@ same_list_eq [] [] e = refl
 same_list_eq [] (b ∷ bs) e = cc
 same_list_eq (a ∷ os) [] e = cc
 same_list_eq (a ∷ os) (b ∷ bs) e =
-    let h = and_true (eqb a b) (same_list os bs) e in
+    let h = and_parts (eqb a b) (same_list os bs) e in
     let p = eqb-true a b h.0 in
     let q = same_list_eq os bs h.1 in
     cc
@@ -91,7 +74,7 @@ same_list_refl (a ∷ l) = rw (eq-eqb a a refl) (same_list_refl l)
 pub gate_with_spec : (l : List ℕ) (k : ℕ) (gs : List (List ℕ)) (s : ℕ) → gate_with l k gs ≡ some s
     → (j : ℕ) × (j < length gs) × (k + j ≡ s) × (get_or gs j [] ≡ l)
 unfolding gate_with pick
-gate_with_spec l k [] s e = absurd (no_way (cc))
+gate_with_spec l k [] s e = cc
 gate_with_spec l k (g ∷ gs) s e = go (same_list l g) refl (λ e'. gate_with_spec l (suc k) gs s e') e
   where
     go : (t : Bool) → same_list l g ≡ t → (gate_with l (suc k) gs ≡ some s → (j : ℕ) × (j < length gs) × (suc k + j ≡ s) × (get_or gs j [] ≡ l))
@@ -99,28 +82,23 @@ gate_with_spec l k (g ∷ gs) s e = go (same_list l g) refl (λ e'. gate_with_sp
     go true q rec e' = let z : k ≡ s = cc in (0, omega arith, omega arith, sym (same_list_eq l g q))
     go false q rec e' = let h = rec e' in (suc h.0, omega arith, omega arith, h.3)
 
--- ---- membership
+-- ---- membership: the library says it by a test
+
+pub mem_any : (x : ℕ) (l : List ℕ) → mem x l ≡ list_any (eqb x) l
+unfolding mem
+mem_any x [] = refl
+mem_any x (a ∷ l) = rw (mem_any x l) refl
 
 pub mem-append : (x : ℕ) (a b : List ℕ) → mem x (a ++ b) ≡ (mem x a || mem x b)
-unfolding mem
-mem-append x [] b = refl
-mem-append x (y ∷ a) b = go (eqb x y) (mem x (a ++ b)) (mem x a) (mem x b) (mem-append x a b)
-  where
-    go : (t u v w : Bool) → u ≡ (v || w) → (t || u) ≡ (t || v || w)
-    go true u v w e = refl
-    go false u v w e = e
+mem-append x a b = rw (mem_any x (a ++ b), mem_any x a, mem_any x b) (list_any-append (eqb x) a b)
 
 pub mem-one : (x y : ℕ) → mem x (y ∷ []) ≡ eqb x y
 unfolding mem
-mem-one x y = go (eqb x y)
-  where
-    go : (t : Bool) → (t || false) ≡ t
-    go true = refl
-    go false = refl
+mem-one x y = or-false (eqb x y)
 
 pub mem-nil : (x : ℕ) → mem x [] ≡ true → ⊥
 unfolding mem
-mem-nil x e = no_way (cc)
+mem-nil x e = cc
 
 pub cons_cases : (P : Type 0) (x y : ℕ) (l : List ℕ) → mem x (y ∷ l) ≡ true → (x ≡ y → P) → (mem x l ≡ true → P) → P
 unfolding mem
@@ -145,8 +123,8 @@ snoc_more x d g e = mem-append x d (g ∷ []) ∙ or_left (mem x d) (mem x (g �
 pub snoc_self : (d : List ℕ) (g : ℕ) → mem g (d ++ (g ∷ [])) ≡ true
 snoc_self d g = mem-append g d (g ∷ []) ∙ or_right (mem g d) (mem g (g ∷ [])) (mem-one g g ∙ eq-eqb g g refl)
 
-pub snoc_not : (x : ℕ) (d : List ℕ) (g : ℕ) → mem x d ≡ false → (x ≡ g → ⊥) → mem x (d ++ (g ∷ [])) ≡ false
-snoc_not x d g e h = mem-append x d (g ∷ []) ∙ or_none (mem x d) (mem x (g ∷ [])) e (mem-one x g ∙ ne_eqb x g h)
+pub mem-snoc : (x g : ℕ) (d : List ℕ) → (x ≡ g → ⊥) → mem x (d ++ (g ∷ [])) ≡ mem x d
+mem-snoc x g d h = mem-append x d (g ∷ []) ∙ rw (mem-one x g, ne_eqb x g h) (or-false (mem x d))
 
 -- either it stood there, or it is g
 pub snoc_cases : (P : Type 0) (x : ℕ) (d : List ℕ) (g : ℕ) → mem x (d ++ (g ∷ [])) ≡ true → (mem x d ≡ true → P) → (x ≡ g → P) → P
@@ -155,4 +133,4 @@ snoc_cases P x d g e f h = go (mem x d) refl (eqb x g) refl
     go : (t : Bool) → mem x d ≡ t → (u : Bool) → eqb x g ≡ u → P
     go true p u q = f p
     go false p true q = h (eqb-true x g q)
-    go false p false q = absurd (no_way (let z = snoc_not x d g p (eqb-false x g q) in cc))
+    go false p false q = let z = mem-snoc x g d (eqb-false x g q) in cc

@@ -1,35 +1,40 @@
 -- Laws of kept, ascending, counted and written lists.
 -- Assumes nothing.
-use Prim.Native.Nat.{ℕ, zero, suc, ◌+◌, ◌-◌, ◌<◌, ◌≤◌}
-use native.Mathlib.Omega.{arith}
+use Rattle.std.proofs.Common.{ℕ, zero, suc, ◌+◌, ◌<◌, ◌≤◌, arith, add-one, ◌≡◌, refl, sym, ap, ◌∙◌, Bool, true, false, List, [], ◌∷◌, ◌++◌, eqb, ltb, leb, ltb-true, lt-ltb, leb-true, le-leb, eqb-true, get_or, length, replicate, drop, set, length-set}
 use native.Mathlib.Decide.{ℕ_discrete}
-use mathlib.Core.Path.{◌≡◌, refl, sym, ap, ◌∙◌}
-use mathlib.Core.Bool.{Bool, true, false, ◌||◌}
-use mathlib.Core.List.{List, [], ◌∷◌, ◌++◌}
-use lib.Dec.{ltb, leb}
-use borrow.Author.Tests.{ltb-true, lt-ltb, leb-true, le-leb}
-use lib.ListN.{get_or, length, drop, set, length-set}
+use Rattle.std.proofs.lemmas.List.Elements.{All-nil, All-cons}
+use Rattle.std.proofs.lemmas.List.Sums.{AllPass-from_list_all, list_all-from_AllPass}
+use Rattle.std.proofs.lemmas.List.Folds.{Any-from_list_any, list_any_none}
+use Rattle.std.specs.List.{range_with_len, IsDistinct, AllByRecursion, All}
 use lib.Seq.{sets, sets-eq}
-use Rattle.rules.specs.Basics.{pick, within, all, any, keep, mem, ascending, upto, set_all}
-use Rattle.rules.proofs.Laws.{no_way, by_pick, and_true, or_false, or_none, cons_cases, cons_more, cons_self, mem-nil}
+use Rattle.rules.specs.Basics.{pick, within, all, any, keep, mem, repeats, ascending, upto, set_all}
+use Rattle.std.proofs.lemmas.Bool.{and_parts, or_parts, or_from, false_from_ne_true}
+use Rattle.std.proofs.lemmas.List.FromFn.{length-range_with_len}
+use Rattle.rules.proofs.Laws.{by_pick, cons_cases, cons_more, cons_self, mem-nil, mem_any}
 
-pub absent : (t : Bool) → (t ≡ true → ⊥) → t ≡ false
-absent true h = absurd (h refl)
-absent false h = refl
+-- what is not the default stands in the list
+pub known : {A : Type 0} {d : A} (l : List A) (i : ℕ) (x : A) → get_or l i d ≡ x → (x ≡ d → ⊥) → i < length l
+known [] i x e h = absurd (h (sym e))
+known (y ∷ l) zero x e h = omega arith
+known (y ∷ l) (suc i) x e h = omega (arith, known l i x e h)
 
--- two tests that imply each other are the same
-pub same_test : (s t : Bool) → (s ≡ true → t ≡ true) → (t ≡ true → s ≡ true) → s ≡ t
-same_test true t f g = sym (f refl)
-same_test false true f g = g refl
-same_test false false f g = refl
+-- every number of a list is below n
+abbrev pub Below : ℕ → List ℕ → Type 0
+Below n l = (x : ℕ) → mem x l ≡ true → x < n
 
 -- ---- limits
 
 pub within_true : (a b x : ℕ) → within a b x ≡ true → (a ≤ x) × (x ≤ b)
-within_true a b x e = let (u, v) = and_true (leb a x) (leb x b) e in (leb-true a x u, leb-true x b v)
+within_true a b x e = let (u, v) = and_parts (leb a x) (leb x b) e in (leb-true a x u, leb-true x b v)
 
 pub within_holds : (a b x : ℕ) → a ≤ x → x ≤ b → within a b x ≡ true
 within_holds a b x h k = rw (le-leb a x h, le-leb x b k)
+
+-- what stands in a list of defaults, and past its end
+pub all_default : {A : Type 0} (m i : ℕ) (d : A) → get_or (replicate m d) i d ≡ d
+all_default zero i d = refl
+all_default (suc m) zero d = refl
+all_default (suc m) (suc i) d = all_default m i d
 
 -- ---- kept
 
@@ -55,38 +60,24 @@ mem-keep p (a ∷ l) x e h =
 
 -- ---- all, none
 
+-- what holds of each number that stands in the list, as the library's `All` says it, and back
+pub members : (P : ℕ → Type 0) (l : List ℕ) → ((x : ℕ) → mem x l ≡ true → P x) → All P l
+members P [] h = All-nil P
+members P (a ∷ l) h = All-cons P a l (h a (cons_self a l)) (members P l (λ x m. h x (cons_more x a l m)))
+
+pub member : (P : ℕ → Type 0) (l : List ℕ) → All P l → (x : ℕ) → mem x l ≡ true → P x
+member P l h x e =
+    let (k, y, i, is, t) = Any-from_list_any (eqb x) l (sym (mem_any x l) ∙ e) in
+    rw (eqb-true x y t) (rw is at (h k y i))
+
 pub all_of : (p : ℕ → Bool) (l : List ℕ) → ((x : ℕ) → mem x l ≡ true → p x ≡ true) → all p l ≡ true
-unfolding all
-all_of p [] h = refl
-all_of p (a ∷ l) h = rw (h a (cons_self a l), all_of p l (λ x e. h x (cons_more x a l e)))
+all_of p l h = list_all-from_AllPass p l (members (λ x. p x ≡ true) l h)
 
 pub all_mem : (p : ℕ → Bool) (l : List ℕ) → all p l ≡ true → (x : ℕ) → mem x l ≡ true → p x ≡ true
-unfolding all
-all_mem p [] e x m = absurd (mem-nil x m)
-all_mem p (a ∷ l) e x m =
-    let (u, v) = and_true (p a) (all p l) e in
-    cons_cases (p x ≡ true) x a l m (λ q. rw q u) (λ q. all_mem p l v x q)
+all_mem p l e = member (λ x. p x ≡ true) l (AllPass-from_list_all p l e)
 
 pub none_of : (p : ℕ → Bool) (l : List ℕ) → ((x : ℕ) → mem x l ≡ true → p x ≡ false) → any p l ≡ false
-unfolding any
-none_of p [] h = refl
-none_of p (a ∷ l) h = or_none (p a) (any p l) (h a (cons_self a l)) (none_of p l (λ x e. h x (cons_more x a l e)))
-
-pub any_false : (p : List ℕ → Bool) (gs : List (List ℕ)) → any p gs ≡ false → (j : ℕ) → j < length gs → p (get_or gs j []) ≡ false
-unfolding any
-any_false p [] e j h = absurd (omega arith)
-any_false p (g ∷ gs) e zero h = (or_false (p g) (any p gs) e).0
-any_false p (g ∷ gs) e (suc j) h = any_false p gs (or_false (p g) (any p gs) e).1 j (omega arith)
-
-pub any_at : (p : List ℕ → Bool) (gs : List (List ℕ)) → any p gs ≡ true → (j : ℕ) × (j < length gs) × (p (get_or gs j []) ≡ true)
-unfolding any
-any_at p [] e = absurd (no_way (cc))
-any_at p (g ∷ gs) e = go (p g) refl e (any_at p gs)
-  where
-    go : (t : Bool) → p g ≡ t → (t || any p gs) ≡ true → (any p gs ≡ true → (j : ℕ) × (j < length gs) × (p (get_or gs j []) ≡ true))
-        → (j : ℕ) × (j < suc (length gs)) × (p (get_or (g ∷ gs) j []) ≡ true)
-    go true q f rec = (0, omega arith, q)
-    go false q f rec = let z = rec f in (suc z.0, omega arith, z.2)
+none_of p l h = list_any_none p l (members (λ x. p x ≡ false) l h)
 
 -- ---- the numbers from a on
 
@@ -105,10 +96,14 @@ upto_in a zero x e = absurd (mem-nil x e)
 upto_in a (suc k) x e =
     cons_cases ((a ≤ x) × (x < a + suc k)) x a (upto (suc a) k) e (λ p. omega arith) (λ p. let z = upto_in (suc a) k x p in omega arith)
 
-pub length-upto : (a k : ℕ) → length (upto a k) ≡ k
+-- the library's word for them
+pub upto_range : (a k : ℕ) → range_with_len a k ≡ upto a k
 unfolding upto
-length-upto a zero = refl
-length-upto a (suc k) = ap suc (length-upto (suc a) k)
+upto_range a zero = refl
+upto_range a (suc k) = rw (add-one) (ap (λ l. a ∷ l) (upto_range (suc a) k))
+
+pub length-upto : (a k : ℕ) → length (upto a k) ≡ k
+length-upto a k = rw (← upto_range a k) (length-range_with_len a k)
 
 -- ---- written entries
 
@@ -131,13 +126,13 @@ asc_cons a (b ∷ l) h e = rw (lt-ltb a b (h b (cons_self b l)), e)
 pub asc_rest : (a : ℕ) (l : List ℕ) → ascending (a ∷ l) ≡ true → ascending l ≡ true
 unfolding ascending
 asc_rest a [] e = refl
-asc_rest a (b ∷ l) e = (and_true (ltb a b) (ascending (b ∷ l)) e).1
+asc_rest a (b ∷ l) e = (and_parts (ltb a b) (ascending (b ∷ l)) e).1
 
 pub asc_low : (a : ℕ) (l : List ℕ) → ascending (a ∷ l) ≡ true → (x : ℕ) → mem x l ≡ true → a < x
 unfolding ascending
 asc_low a [] e x m = absurd (mem-nil x m)
 asc_low a (b ∷ l) e x m =
-    let (u, v) = and_true (ltb a b) (ascending (b ∷ l)) e in
+    let (u, v) = and_parts (ltb a b) (ascending (b ∷ l)) e in
     let h = ltb-true a b u in
     cons_cases (a < x) x b l m (λ p. omega arith) (λ p. let k = asc_low b l v x p in omega arith)
 
@@ -146,32 +141,29 @@ unfolding upto ascending
 asc_upto a zero = refl
 asc_upto a (suc k) = asc_cons a (upto (suc a) k) (λ x m. (upto_in (suc a) k x m).0) (asc_upto (suc a) k)
 
--- ascending numbers from a on and below b are at most b - a
-pub asc_few : (a b : ℕ) (l : List ℕ) → ascending l ≡ true → ((x : ℕ) → mem x l ≡ true → (a ≤ x) × (x < b)) → length l ≤ b - a
-asc_few a b [] e h = omega arith
-asc_few a b (c ∷ l) e h =
-    let z = h c (cons_self c l) in
-    omega (arith, asc_few (suc a) b l (asc_rest c l e) (λ x m. let k = asc_low c l e x m in let y = h x (cons_more x c l m) in (omega arith, y.1)))
+-- ---- no entry stands twice: in the library's words
+
+pub distinct : (l : List ℕ) → repeats l ≡ false → IsDistinct eqb l
+unfolding repeats IsDistinct mem
+distinct [] e = tt
+distinct (a ∷ l) e = let (p, q) = or_parts (mem a l) (repeats l) e in (apart l p, distinct l q)
+  where
+    apart : (m : List ℕ) → mem a m ≡ false → AllByRecursion (λ b. eqb a b ≡ false) m
+    apart [] f = tt
+    apart (b ∷ m) f = let (u, v) = or_parts (eqb a b) (mem a m) f in (u, apart m v)
+
+pub asc_once : (l : List ℕ) → ascending l ≡ true → repeats l ≡ false
+unfolding repeats
+asc_once [] e = refl
+asc_once (a ∷ l) e =
+    or_from (mem a l) (repeats l) (false_from_ne_true (mem a l) (λ m. let h = asc_low a l e a m in omega arith)) (asc_once l (asc_rest a l e))
 
 -- ---- each
 
--- a rule holds of each entry, with its own number, counted from k
-unfoldable pub Each : {A : Type 0} → (ℕ → A → Type 0) → ℕ → List A → Type 0
-Each Q k [] = Unit {0}
-Each Q k (a ∷ l) = Q k a × Each Q (suc k) l
+-- `All`, of each entry with its own number, counted from k
+abbrev pub Each : {A : Type 0} → (ℕ → A → Type 0) → ℕ → List A → Type 0
+Each {A} Q k l = (j : ℕ) (d : A) → j < length l → Q (k + j) (get_or l j d)
 
-pub each_at : {A : Type 0} (Q : ℕ → A → Type 0) (k : ℕ) (l : List A) (d : A) → Each Q k l → (j : ℕ) → j < length l → Q (k + j) (get_or l j d)
-unfolding Each
-each_at Q k [] d e j h = absurd (omega arith)
-each_at Q k (a ∷ l) d e zero h = let z : k + 0 ≡ k = omega arith in rw z e.0
-each_at Q k (a ∷ l) d e (suc j) h = let z : k + suc j ≡ suc k + j = omega arith in rw z (each_at Q (suc k) l d e.1 j (omega arith))
-
-pub each_mem : (P : ℕ → Type 0) (k : ℕ) (l : List ℕ) → Each (λ _ o. P o) k l → (o : ℕ) → mem o l ≡ true → P o
-unfolding Each
-each_mem P k [] e o m = absurd (mem-nil o m)
-each_mem P k (a ∷ l) e o m = cons_cases (P o) o a l m (λ q. rw q e.0) (λ q. each_mem P (suc k) l e.1 o q)
-
-pub each_snoc : {A : Type 0} (Q : A → Type 0) (k : ℕ) (l : List A) (a : A) → Each (λ _. Q) k l → Q a → Each (λ _. Q) k (l ++ (a ∷ []))
-unfolding Each
-each_snoc Q k [] a e q = (q, tt)
-each_snoc Q k (b ∷ l) a e q = (e.0, each_snoc Q (suc k) l a e.1 q)
+pub each_cons : {A : Type 0} (Q : ℕ → A → Type 0) (k : ℕ) (a : A) (l : List A) → Q k a → Each Q (suc k) l → Each Q k (a ∷ l)
+each_cons Q k a l q h zero d i = let z : k + 0 ≡ k = omega arith in rw z q
+each_cons Q k a l q h (suc j) d i = let z : k + suc j ≡ suc k + j = omega arith in rw z (h j d (omega arith))

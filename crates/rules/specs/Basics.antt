@@ -1,5 +1,6 @@
 -- Words that document 01 uses without saying them: choice, membership, order of numbers. Nothing here is about memories.
 -- Assumes nothing.
+use Rattle.std.specs.List.{list_all, list_any}
 use Rattle.std.specs.Prelude.{ℕ, zero, suc, Bool, true, false, ◌&&◌, ◌||◌, List, [], ◌∷◌, eqb, ltb, leb, set}
 
 -- the first where the test holds, else the second
@@ -16,13 +17,12 @@ unfoldable pub larger : ℕ → ℕ → ℕ
 unfolding pick
 larger a b = pick (ltb a b) b a
 
-unfoldable pub all : {A : Type 0} → (A → Bool) → List A → Bool
-all p [] = true
-all p (a ∷ l) = p a && all p l
+-- whether each passes the test, and whether one does: the library's words
+abbrev pub all : {A : Type 0} → (A → Bool) → List A → Bool
+all p l = list_all p l
 
-unfoldable pub any : {A : Type 0} → (A → Bool) → List A → Bool
-any p [] = false
-any p (a ∷ l) = p a || any p l
+abbrev pub any : {A : Type 0} → (A → Bool) → List A → Bool
+any p l = list_any p l
 
 -- those that pass a test, as they stand
 unfoldable pub keep : (ℕ → Bool) → List ℕ → List ℕ

@@ -5,7 +5,7 @@ use mathlib.Core.List.{List, [], ◌∷◌, ◌++◌, map}
 use Rattle.std.proofs.Math.Option.{Option, none, some}
 use Rattle.rules.specs.Basics.{pick, any, upto, sort, same_list, set_all}
 use Rattle.rules.specs.Form.{Form}
-use Rattle.rules.specs.Refusals.{Res, good, refuse, ◌>>=◌, ◌>>◌, require, or_refuse}
+use Rattle.rules.specs.Refusals.{Res, good, refused, ◌>>=◌, ◌>>◌, require, or_refuse}
 use Rattle.rules.specs.Netlist.{Netlist, netlist_of}
 use Rattle.rules.specs.Sequence.{Instruction, Set, Nor, Sequence, sequence_of}
 
@@ -52,16 +52,16 @@ module _ (N : Netlist) where
   -- 14 if the written cell isn't ready, 15 if an operand cell is ready or unknown, or if the operand signals are no gate's operand list
   unfoldable pub made : Cell → Option (List ℕ) → Res ℕ
   unfolding or_refuse gate_on
-  made unknown ss = refuse 14
+  made unknown ss = refused 14
   made ready ss = or_refuse 15 (gate_on ss)
-  made (holds s) ss = refuse 14
+  made (holds s) ss = refused 14
 
   -- Set: 13 if an input cell is named; else all named become ready, used before or not.
   -- NOR: 13 if an input cell is written. Else the cell holds that gate.
   unfoldable pub step : Instruction → List Cell → Res (List Cell)
-  unfolding pick any set_all made signals ◌>>=◌
-  step (Set cs) book = pick (any fixed cs) (refuse 13) (good (set_all ready cs book))
-  step (Nor w os) book = pick (fixed w) (refuse 13) (made (get_or book w unknown) (signals book os) >>= λ g. good (set book w (holds g)))
+  unfolding pick set_all made signals ◌>>=◌
+  step (Set cs) book = pick (any fixed cs) (refused 13) (good (set_all ready cs book))
+  step (Nor w os) book = pick (fixed w) (refused 13) (made (get_or book w unknown) (signals book os) >>= λ g. good (set book w (holds g)))
 
   -- instruction by instruction
   unfoldable pub steps : List Instruction → List Cell → Res (List Cell)

@@ -1,10 +1,10 @@
 -- The public calls: the answer and every lent byte afterwards, for every input. Contracts cite these.
 -- Assumes nothing.
-use Rattle.std.specs.Prelude.{ℕ, List, ◌++◌, ltb, length, drop}
-use Rattle.rules.specs.declared.Answer.{Answer}
+use Rattle.std.specs.Prelude.{ℕ, Result, List, ◌++◌, ltb, length, drop}
+use Rattle.rules.specs.declared.Refusal.{Refusal}
 use Rattle.rules.specs.Basics.{pick}
 use Rattle.rules.specs.Form.{form01}
-use Rattle.rules.specs.Refusals.{Res, good, refused, refuse, ◌>>=◌, ◌>>◌, require, meaning}
+use Rattle.rules.specs.Refusals.{Res, good, refused, ◌>>=◌, ◌>>◌, require, meaning}
 use Rattle.rules.specs.Lines.{frame_at, place_after}
 use Rattle.rules.specs.Netlist.{netlist_of, netlist_tail}
 use Rattle.rules.specs.Sequence.{Sequence, sequence_of}
@@ -20,7 +20,7 @@ pub record Outcome : Type 0 where
   pub lent : List ℕ
 
 -- an answer of the code and the lent bytes after it
-abbrev pub outcome_of : Answer → List ℕ → Outcome
+abbrev pub outcome_of : Result ℕ Refusal → List ℕ → Outcome
 outcome_of r lent = record { answer = meaning r; lent = lent }
 
 -- A refusal returns its number only. Every lent buffer keeps every byte.
@@ -29,7 +29,7 @@ unfoldable pub delivered : Res (List ℕ) → List ℕ → Outcome
 unfolding pick
 delivered (refused r) out = record { answer = refused r; lent = out }
 delivered (good text) out =
-    pick (ltb (length out) (length text)) (record { answer = refuse 10; lent = out })
+    pick (ltb (length out) (length text)) (record { answer = refused 10; lent = out })
     (record { answer = good (length text); lent = text ++ drop (length text) out })
 
 -- map(row, text, out): 8, netlist, 9, 10

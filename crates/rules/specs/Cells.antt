@@ -6,7 +6,7 @@ use Rattle.std.proofs.Math.Option.{Option, none, some}
 use Rattle.std.proofs.Math.Dec.{leb}
 use Rattle.std.proofs.Math.ListN.{set}
 use Rattle.rules.specs.Basics.{pick, mem, keep, upto, set_all}
-use Rattle.rules.specs.Refusals.{Res, good, refuse, ◌>>=◌}
+use Rattle.rules.specs.Refusals.{Res, good, refused, ◌>>=◌}
 use Rattle.rules.specs.Netlist.{Netlist, operands_of}
 use Rattle.rules.specs.Sequence.{Instruction, Set, Nor}
 
@@ -92,13 +92,13 @@ module _ (N : Netlist) where
   -- If none is spent either, answer 9.
   unfoldable pub in_ready : ℕ → State → Option ℕ → Res State
   unfolding place
-  in_ready g st none = refuse 9
+  in_ready g st none = refused 9
   in_ready g st (some c) = good (place g c st)
 
   -- If none is ready and some are spent, write one set line naming all spent cells ascending.
   unfoldable pub after_set : ℕ → State → List ℕ → Res State
   unfolding in_ready set_cells lowest is_ready
-  after_set g st [] = refuse 9
+  after_set g st [] = refused 9
   after_set g st (c ∷ cs) = let set = set_cells (c ∷ cs) st in in_ready g set (lowest is_ready 0 set.slots)
 
   -- `renew` names the cells of the set line when none is ready: document 01 names all spent ones

@@ -4,7 +4,7 @@ use Rattle.std.specs.Prelude.{ℕ, suc, ◌+◌, ◌-◌, ◌*◌, ◌/◌, ◌%
 use Rattle.std.proofs.Math.Option.{Option, none, some}
 use Rattle.rules.specs.Basics.{pick, within}
 use Rattle.rules.specs.Form.{Form, Width, one, two}
-use Rattle.rules.specs.Refusals.{Res, good, refuse}
+use Rattle.rules.specs.Refusals.{Res, good, refused}
 
 -- ---- A line is an even number, at least 2, of digits 0-9 A-F (capitals only), then one line feed. It carries 1 to 257 bytes.
 
@@ -48,14 +48,14 @@ first_line t = let d = digits t in record { bytes = bytes_in (take d t); rest = 
 -- 1: a line breaks the rule for lines, or the last has no line feed; 2: a frame is missing; an empty text
 unfoldable pub line : Form → List ℕ → Res Line
 unfolding pick is_line first_line
-line F [] = refuse 2
-line F (c ∷ t) = pick (is_line F (c ∷ t)) (good (first_line (c ∷ t))) (refuse 1)
+line F [] = refused 2
+line F (c ∷ t) = pick (is_line F (c ∷ t)) (good (first_line (c ∷ t))) (refused 1)
 
 -- Nothing follows: 2 if a good line stands there, 1 if a bad one does.
 unfoldable pub nothing : Form → List ℕ → Res (Unit {0})
 unfolding pick is_line
 nothing F [] = good tt
-nothing F (c ∷ t) = pick (is_line F (c ∷ t)) (refuse 2) (refuse 1)
+nothing F (c ∷ t) = pick (is_line F (c ∷ t)) (refused 2) (refused 1)
 
 -- ---- Two-byte numbers are high byte first.
 

@@ -6,7 +6,7 @@ use Rattle.std.proofs.Math.Dec.{ltb}
 use Rattle.std.proofs.Math.ListN.{get_or}
 use Rattle.rules.specs.Basics.{pick, within, all, any, mem, repeats, ascending, same_list, upto}
 use Rattle.rules.specs.Form.{Form, two}
-use Rattle.rules.specs.Refusals.{Res, good, refused, refuse, ◌>>=◌, ◌>>◌, require, or_refuse}
+use Rattle.rules.specs.Refusals.{Res, good, refused, ◌>>=◌, ◌>>◌, require, or_refuse}
 use Rattle.rules.specs.Lines.{line, nothing, numbers, fields}
 
 -- Inputs are signals 0 up; the next signals are the gates, in line order. A gate is its operand list.
@@ -26,7 +26,7 @@ gate_signals N = upto N.inputs (length N.gates)
 
 -- some gate reads signal s
 unfoldable pub is_read : Netlist → ℕ → Bool
-unfolding any mem
+unfolding mem
 is_read N s = any (mem s) N.gates
 
 -- ---- the lines of a netlist, by their bytes
@@ -34,8 +34,8 @@ is_read N s = any (mem s) N.gates
 -- 2: another kind was due
 unfoldable pub due : ℕ → List ℕ → Res (List ℕ)
 unfolding pick
-due k [] = refuse 2
-due k (b ∷ l) = pick (eqb b k) (good l) (refuse 2)
+due k [] = refused 2
+due k (b ∷ l) = pick (eqb b k) (good l) (refused 2)
 
 pub record Head : Type 0 where
   pub inputs : ℕ
@@ -56,7 +56,7 @@ module _ (F : Form) where
 
   -- 02 gate: 1 to 4 operand signals, 2 bytes each. A gate reads only signals lower than its own, strictly ascending.
   unfoldable pub gate_of : ℕ → List ℕ → Res (List ℕ)
-  unfolding due numbers ◌>>=◌ ◌>>◌ require or_refuse all ascending
+  unfolding due numbers ◌>>=◌ ◌>>◌ require or_refuse ascending
   gate_of own bytes = do
     l ← due F.gate_kind bytes
     os ← or_refuse 2 (numbers two l)
@@ -104,12 +104,12 @@ module _ (F : Form) where
 
 -- Every gate is read by some gate or is an output.
 unfoldable pub all_used : Netlist → Bool
-unfolding all gate_signals is_read mem
+unfolding gate_signals is_read mem
 all_used N = all (λ s. is_read N s || mem s N.outputs) (gate_signals N)
 
 -- two gates have the same operand list
 unfoldable pub twins : List (List ℕ) → Bool
-unfolding any same_list
+unfolding same_list
 twins [] = false
 twins (g ∷ gs) = any (same_list g) gs || twins gs
 

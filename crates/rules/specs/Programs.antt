@@ -1,10 +1,9 @@
 -- Document 01, "Programs": from the bytes of standard input to the bytes of standard output.
 -- Assumes nothing.
 use Rattle.std.specs.Prelude.{ℕ, ◌+◌, List, [], ◌∷◌, ltb, get_or, length}
-use Rattle.rules.specs.declared.Refusal.{Refusal}
 use Rattle.rules.specs.Basics.{pick}
 use Rattle.rules.specs.Form.{Form, two}
-use Rattle.rules.specs.Refusals.{Res, good, refused, refuse, ◌>>=◌, or_refuse}
+use Rattle.rules.specs.Refusals.{Res, good, refused, ◌>>=◌, or_refuse}
 use Rattle.rules.specs.Lines.{line, fields, bytes_of, written}
 use Rattle.rules.specs.Netlist.{due, netlist_lines, well_formed}
 use Rattle.rules.specs.Sequence.{sequence_of}
@@ -16,9 +15,9 @@ abbrev pub program_holds : ℕ
 program_holds = 65536
 
 -- 1F and the number in one byte
-unfoldable pub refusal_line : Refusal → List ℕ
+unfoldable pub refusal_line : ℕ → List ℕ
 unfolding written
-refusal_line r = written (0x1F ∷ r.number ∷ [])
+refusal_line r = written (0x1F ∷ r ∷ [])
 
 -- 1E and the cycles (2 bytes)
 unfoldable pub cycles_line : ℕ → List ℕ
@@ -28,13 +27,13 @@ cycles_line n = written (0x1E ∷ bytes_of two (n ∷ []))
 -- what is printed; a longer output prints 1F0A alone
 unfoldable pub printed : {A : Type 0} → (A → List ℕ) → Res A → List ℕ
 unfolding pick refusal_line
-printed text (good a) = pick (ltb program_holds (length (text a))) (refusal_line (record { number = 10 })) (text a)
+printed text (good a) = pick (ltb program_holds (length (text a))) (refusal_line 10) (text a)
 printed text (refused r) = refusal_line r
 
 -- a longer input prints 1F01
 unfoldable pub held : {A : Type 0} → List ℕ → Res A → Res A
 unfolding pick
-held input r = pick (ltb program_holds (length input)) (refuse 1) r
+held input r = pick (ltb program_holds (length input)) (refused 1) r
 
 module _ (F : Form) where
   -- 0F job: row size less one (1)

@@ -6,7 +6,7 @@ use Rattle.std.proofs.Math.Dec.{ltb}
 use Rattle.std.proofs.Math.ListN.{get_or}
 use Rattle.rules.specs.Basics.{pick, within, all, repeats, ascending}
 use Rattle.rules.specs.Form.{Form, two}
-use Rattle.rules.specs.Refusals.{Res, good, refuse, ◌>>=◌, ◌>>◌, require, or_refuse}
+use Rattle.rules.specs.Refusals.{Res, good, refused, ◌>>=◌, ◌>>◌, require, or_refuse}
 use Rattle.rules.specs.Lines.{line, nothing, numbers, fields, bytes_of, written}
 use Rattle.rules.specs.Netlist.{due, lines}
 
@@ -49,7 +49,7 @@ module _ (F : Form) where
 
   -- Set cells ascend strictly. Every cell named is below the row size.
   unfoldable pub set_of : ℕ → List ℕ → Res Instruction
-  unfolding numbers ◌>>=◌ ◌>>◌ require or_refuse ascending all
+  unfolding numbers ◌>>=◌ ◌>>◌ require or_refuse ascending
   set_of row l = do
     cs ← or_refuse 2 (numbers F.cell_width l)
     require (within 1 F.row_most (length cs)) 2
@@ -59,7 +59,7 @@ module _ (F : Form) where
 
   -- The cells of one NOR line all differ, in any order.
   unfoldable pub nor_of : ℕ → List ℕ → Res Instruction
-  unfolding numbers ◌>>=◌ ◌>>◌ require or_refuse repeats all nor_from
+  unfolding numbers ◌>>=◌ ◌>>◌ require or_refuse repeats nor_from
   nor_of row l = do
     cs ← or_refuse 2 (numbers F.cell_width l)
     require (within 2 5 (length cs)) 2
@@ -70,8 +70,8 @@ module _ (F : Form) where
   -- its instructions (12 or 13)
   unfoldable pub instruction_of : ℕ → List ℕ → Res Instruction
   unfolding pick set_of nor_of
-  instruction_of row [] = refuse 2
-  instruction_of row (k ∷ l) = pick (eqb k F.set_kind) (set_of row l) (pick (eqb k F.nor_kind) (nor_of row l) (refuse 2))
+  instruction_of row [] = refused 2
+  instruction_of row (k ∷ l) = pick (eqb k F.set_kind) (set_of row l) (pick (eqb k F.nor_kind) (nor_of row l) (refused 2))
 
   -- 14 place: one cell
   unfoldable pub place_of : ℕ → List ℕ → Res ℕ

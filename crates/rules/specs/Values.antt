@@ -27,5 +27,4 @@ output_values N ins = map (λ o. get_or (values N ins) o 0) N.outputs
 
 -- so many bytes, each 0 or 1 (else 17)
 unfoldable pub are_bits : ℕ → List ℕ → Bool
-unfolding all
 are_bits n bits = eqb (length bits) n && all (λ b. leb b 1) bits

@@ -1,37 +1,19 @@
-// Entries of lent slices: 0 past the end, and a write past the end changes nothing. So every call takes any slice and any place.
+// Entries of lent slices: another value past the end, and a write past the end changes nothing. So every call takes any slice and any place.
 #![tactic(auto)]
 
-ghost use Rattle.std.specs.Prelude.{◌≡◌, get_or, set, drop};
+ghost use Rattle.std.specs.Prelude.{◌≡◌, leb, get_or, set, drop};
+ghost use Rattle.rules.specs.Basics.{all};
 ghost use Rattle.rules.specs.Values.{are_bits};
 
-pub fn at8(s: &[u8], i: usize) -> u8
-    ensures { result ≡ get_or s.now i 0 }
+// The entry at a place, or what stands for those past the end.
+pub fn at<T: Copy>(s: &[T], i: usize, past: T) -> T
+    ensures { result ≡ get_or s.now i past }
 {
-    if i < s.len() {
-        return s[i];
-    }
-    0
+    s.get(i).copied().unwrap_or(past)
 }
 
-pub fn at16(s: &[u16], i: usize) -> u16
-    ensures { result ≡ get_or s.now i 0 }
-{
-    if i < s.len() {
-        return s[i];
-    }
-    0
-}
-
-pub fn at64(s: &[u64], i: usize) -> u64
-    ensures { result ≡ get_or s.now i 0 }
-{
-    if i < s.len() {
-        return s[i];
-    }
-    0
-}
-
-pub fn put8(s: &mut [u8], i: usize, v: u8)
+// One entry altered; none past the end.
+pub fn put<T: Copy>(s: &mut [T], i: usize, v: T)
     ensures { s.new ≡ set s.old i v }
 {
     if i < s.len() {
@@ -39,38 +21,23 @@ pub fn put8(s: &mut [u8], i: usize, v: u8)
     }
 }
 
-pub fn put16(s: &mut [u16], i: usize, v: u16)
-    ensures { s.new ≡ set s.old i v }
-{
-    if i < s.len() {
-        s[i] = v;
-    }
-}
-
-// The part of a slice from a place on; the empty part at its end, past the end.
-pub fn rest8(s: &[u8], at: usize) -> &[u8]
+// The part of a slice from a place on; the empty part past the end.
+pub fn rest<T>(s: &[T], at: usize) -> &[T]
     ensures { result.now ≡ drop at s.now }
 {
-    if at < s.len() {
-        return &s[at..];
-    }
-    let end = s.len();
-    &s[end..]
+    s.get(at..).unwrap_or_default()
+}
+
+fn all_bits(s: &[u8]) -> bool
+    ensures { result ≡ all (λ b. leb b 1) s.now }
+{
+    s.iter().all(|&b| b <= 1)
 }
 
 // Whether a slice has n bytes, each 0 or 1.
+#[tactic(auto, unfolding(rules::specs::Values::are_bits))]
 pub fn are_bits(s: &[u8], n: usize) -> bool
     ensures { result ≡ are_bits n s.now }
 {
-    if s.len() != n {
-        return false;
-    }
-    let mut i = 0;
-    while i < s.len() {
-        if 1 < s[i] {
-            return false;
-        }
-        i += 1;
-    }
-    true
+    s.len() == n && all_bits(s)
 }

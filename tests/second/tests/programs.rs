@@ -50,7 +50,7 @@ fn cases_are_many_and_hold_every_number() {
     assert_eq!(cases, printed(env!("CARGO_BIN_EXE_cases"), b""));
     assert!(cases.matches("refl").count() >= 36);
     for number in 1..=17 {
-        let said = [format!("refuse {number})"), format!("keeps {number} ")];
+        let said = [format!("refused {number})"), format!("keeps {number} ")];
         assert!(said.iter().any(|said| cases.contains(said)), "{number}");
     }
 }

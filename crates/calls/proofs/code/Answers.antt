@@ -1,10 +1,5 @@
-use Rattle.calls.specs.Coded.{coded}
+use Rattle.calls.proofs.Laws.{refusal_coded}
 use Rattle.calls.proofs.code.Goals as goal
 
-pub returns-in-Given : goal.returns-in-Given
-unfolding coded
-returns-in-Given c = rw c.in-Given.is
-
-pub returns-in-Refused : goal.returns-in-Refused
-unfolding coded
-returns-in-Refused c = rw c.in-Refused.is c.minus.ensures
+pub returns-in-Err : goal.returns-in-Err
+returns-in-Err c = refusal_coded _ _ _ c.in-Err.is c.minus.ensures

@@ -1,22 +1,30 @@
-use mathlib.Core.Path.{sym, ◌∙◌}
+use Rattle.std.proofs.Common.{arith, sym, ◌∙◌}
+use Rattle.std.proofs.lemmas.Result.{err_from_is_err_and}
 use Rattle.netlist.proofs.FlatWell.{read_flat}
-use Rattle.evaluator.proofs.Ends.{not_read, not_bits, no_room, handed, values_long}
+use Rattle.evaluator.proofs.Ends.{bits_long, not_read, not_bits, no_room, handed}
 use Rattle.evaluator.proofs.evaluate.Goals as goal
 
-pub returns-then-refusal-ne0 : goal.returns-then-refusal-ne0
-returns-then-refusal-ne0 c = not_read _ _ _ _ c.read-r.ensures c.if-refusal-ne0.true
+pub returns-in_err-n : goal.returns-in_err-n
+returns-in_err-n c =
+    let p = err_from_is_err_and c.from_residual.result c.from_residual.ensures.1 in
+    rw (p.1, p.2) (not_read _ _ _ _ c.in_err-n.ensures)
 
 pub returns-then-not-are_bits : goal.returns-then-not-are_bits
-returns-then-not-are_bits c = not_bits _ _ _ _ c.read-r.ensures c.if-refusal-ne0.false (sym c.are_bits.ensures ∙ c.if-not-are_bits.true)
+returns-then-not-are_bits c = not_bits _ _ _ _ c.in_ok-n.ensures (sym c.are_bits.ensures ∙ c.if-not-are_bits.true)
 
-pub returns-then-out-outputs : goal.returns-then-out-outputs
-returns-then-out-outputs c = no_room _ _ _ _ c.read-r.ensures c.if-refusal-ne0.false (sym c.are_bits.ensures ∙ c.if-not-are_bits.false) c.if-out-outputs.true
+pub returns-then-out-n : goal.returns-then-out-n
+returns-then-out-n c = no_room _ _ _ _ c.in_ok-n.ensures (sym c.are_bits.ensures ∙ c.if-not-are_bits.false) c.if-out-n.true
+
+pub copy_in-requires : goal.copy_in-requires
+copy_in-requires c =
+    let w = read_flat c.args.text.now c.in_ok-n.n c.in_ok-n.ensures in
+    omega (arith, bits_long _ _ (sym c.are_bits.ensures ∙ c.if-not-are_bits.false), w.inputs_most)
 
 pub work_out-requires : goal.work_out-requires
-work_out-requires c = (read_flat _ _ c.read-r.ensures c.if-refusal-ne0.false, values_long _ _ c.args.inputs.now c.no_values-values.ensures c.copy_in.ensures)
+work_out-requires c = (read_flat c.args.text.now c.in_ok-n.n c.in_ok-n.ensures, c.copy_in.auto.values)
 
-pub hand_out-requires : goal.hand_out-requires
-hand_out-requires c = (read_flat _ _ c.read-r.ensures c.if-refusal-ne0.false).outputs_most
+pub output_list-requires : goal.output_list-requires
+output_list-requires c = (read_flat c.args.text.now c.in_ok-n.n c.in_ok-n.ensures).outputs_most
 
 pub returns : goal.returns
-returns c = handed _ _ _ _ c.read-r.ensures c.if-refusal-ne0.false (sym c.are_bits.ensures ∙ c.if-not-are_bits.false) _ _ _ _ c.no_values-values.ensures c.copy_in.ensures c.work_out.ensures c.hand_out.ensures c.if-out-outputs.false
+returns c = handed _ _ _ _ c.in_ok-n.ensures (sym c.are_bits.ensures ∙ c.if-not-are_bits.false) _ _ _ _ _ c.copy_in.ensures c.work_out.ensures c.output_list.ensures c.hand_out.ensures c.if-out-n.false

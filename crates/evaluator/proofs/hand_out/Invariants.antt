@@ -1,9 +1,9 @@
-use Prim.Native.Nat.{◌-◌}
-use Rattle.evaluator.proofs.Handed.{Handing}
+use mathlib.Core.Path.{◌≡◌}
+use mathlib.Core.List.{map}
+use lib.ListN.{drop}
+use lib.Seq.{sets}
+use Rattle.evaluator.specs.Values.{values_at}
 use Rattle.evaluator.proofs.hand_out.Given as goal
 
 abbrev pub invariant-loop-k : goal.invariant-loop-k
-invariant-loop-k l = Handing l.values l.outs l.n l.initial.out l.out l.k
-
-abbrev pub decreases-loop-k : goal.decreases-loop-k
-decreases-loop-k l = l.n - l.k
+invariant-loop-k l = sets l.out l.k (map (values_at l.values) (drop l.k l.outputs)) ≡ sets l.initial.out 0 (map (values_at l.values) l.outputs)

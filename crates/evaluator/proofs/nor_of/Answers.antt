@@ -1,12 +1,14 @@
-use native.Mathlib.Omega.{arith}
-use Rattle.evaluator.proofs.Worked.{norring_turn, norring_stop, norring_end}
+use Rattle.std.proofs.Common.{rules, tests, ap, ◌∙◌, eqb}
+use Rattle.std.specs.Int.{from_bool}
+use Rattle.std.proofs.lemmas.Iterator.{YieldsList-from_slice}
+use Rattle.std.proofs.lemmas.Iterator.Search.{all_from_yields_List}
+use Rattle.evaluator.specs.Values.{values_at}
+use Rattle.evaluator.proofs.Worked.{nor_all}
 use Rattle.evaluator.proofs.nor_of.Goals as goal
 
-pub returns-then-at8-ne0 : goal.returns-then-at8-ne0
-returns-then-at8-ne0 c = norring_stop c.loop-j.invariant _ _ (omega (arith, c.loop-j-test.true)) c.at16.ensures c.at8.ensures c.if-at8-ne0.true
-
-pub loop-j-preserved : goal.loop-j-preserved
-loop-j-preserved c = norring_turn c.loop-j.invariant _ _ (omega (arith, c.loop-j-test.true)) c.at16.ensures c.at8.ensures c.if-at8-ne0.false
-
 pub returns : goal.returns
-returns c = norring_end c.loop-j.invariant c.loop-j-test.false
+returns c =
+    let values = c.args.values.now in
+    let operands = c.args.operands.now in
+    let zero = all_from_yields_List (λ o. eqb (values_at values o) 0) _ _ c.all.result c.all.ensures.ran (YieldsList-from_slice operands cc) (λ x b q k. search (rules, tests)) in
+    c.from.ensures ∙ ap from_bool zero ∙ nor_all values operands

@@ -1,8 +1,9 @@
+use Rattle.std.proofs.Common.{rules}
 use Rattle.evaluator.proofs.Worked.{working_start, working_turn}
 use Rattle.evaluator.proofs.work_out.Goals as goal
 
 pub loop-g-init : goal.loop-g-init
-loop-g-init c = working_start _ _ _ _ _
+loop-g-init c = working_start c.args.n.now _
 
 pub loop-g-preserved : goal.loop-g-preserved
-loop-g-preserved c = working_turn c.args.n c.requires.0 c.loop-g.invariant _ _ _ c.requires.1 c.loop-g-test.true c.at8.ensures c.nor_of-v.ensures c.put8.ensures
+loop-g-preserved c = working_turn c.args.n.now c.requires.0 _ _ _ c.loop-g.invariant _ _ _ (search rules) c.loop-g-test.true c.operands.ensures c.nor_of-v.ensures c.put.ensures

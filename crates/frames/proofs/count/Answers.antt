@@ -1,15 +1,15 @@
--- `frames::count` meets its contract: the frames before the place are counted, and the place moves on within the text.
-use Rattle.frames.proofs.Counting.{counted_start, counted_less, counted_turn, counted_end}
+-- `frames::count` meets its contract: the frames before the reader's place are counted, and the place moves on within the text.
+use Rattle.frames.proofs.Counting.{by_start, by_end, by_less, by_turn}
 use Rattle.frames.proofs.count.Goals as goal
 
-pub loop-p-init : goal.loop-p-init
-loop-p-init c = counted_start _
+pub loop-r-init : goal.loop-r-init
+loop-r-init c = by_start c.args.text _ c.new-r.ensures
 
-pub returns-then-p-eq0 : goal.returns-then-p-eq0
-returns-then-p-eq0 c = counted_end c.loop-p.invariant _ c.piece_at-p.ensures c.if-p-eq0.true
+pub loop-r-smaller : goal.loop-r-smaller
+loop-r-smaller c = by_less c.loop-r.invariant _ c.next.ensures.0.0 _ c.is_empty.ensures c.loop-r-test.true _ c.next.ensures.1
 
-pub loop-p-smaller : goal.loop-p-smaller
-loop-p-smaller c = counted_less c.loop-p.invariant _ c.piece_at-p.ensures c.if-p-eq0.false
+pub loop-r-preserved : goal.loop-r-preserved
+loop-r-preserved c = by_turn c.loop-r.invariant _ c.next.ensures.0.0 _ c.is_empty.ensures c.loop-r-test.true _ c.next.ensures.1
 
-pub loop-p-preserved : goal.loop-p-preserved
-loop-p-preserved c = counted_turn c.loop-p.invariant _ c.piece_at-p.ensures c.if-p-eq0.false
+pub returns : goal.returns
+returns c = by_end c.loop-r.invariant _ c.next.ensures.0.0 _ c.is_empty.ensures c.loop-r-test.false

@@ -1,10 +1,9 @@
-use Prim.Native.Nat.{◌-◌}
-use lib.ListN.{length}
-use Rattle.frames.proofs.Counting.{Counted}
+use Rattle.std.proofs.Common.{◌-◌, length}
+use Rattle.frames.proofs.Counting.{CountedBy}
 use Rattle.frames.proofs.count.Given as goal
 
-abbrev pub invariant-loop-p : goal.invariant-loop-p
-invariant-loop-p l = Counted l.text l.at l.n
+abbrev pub invariant-loop-r : goal.invariant-loop-r
+invariant-loop-r l = CountedBy l.text l.r l.n
 
-abbrev pub decreases-loop-p : goal.decreases-loop-p
-decreases-loop-p l = length l.text - l.at
+abbrev pub decreases-loop-r : goal.decreases-loop-r
+decreases-loop-r l = length l.text - l.r.at

@@ -1,8 +1,9 @@
+use Rattle.std.proofs.Common.{sym, ◌∙◌}
 use Rattle.instruction.proofs.Counting.{counted_turn, counted_end}
 use Rattle.instruction.proofs.count.Goals as goal
 
-pub returns-in_default : goal.returns-in_default
-returns-in_default c = counted_end c.loop-at.invariant _ c.cell_at-n.ensures c.in_default.is
+pub loop-k-preserved : goal.loop-k-preserved
+loop-k-preserved c = counted_turn c.loop-k.invariant _ c.cell_at.ensures (sym c.is_some.ensures ∙ c.loop-k-test.true)
 
-pub loop-at-preserved : goal.loop-at-preserved
-loop-at-preserved c = counted_turn c.loop-at.invariant _ c.cell_at-n.ensures _ c.in-Cell.is
+pub returns : goal.returns
+returns c = counted_end c.loop-k.invariant _ c.cell_at.ensures (sym c.is_some.ensures ∙ c.loop-k-test.false)

@@ -4,8 +4,8 @@ use Rattle.instruction.proofs.instruction_at.Goals as goal
 pub returns-then-text-at : goal.returns-then-text-at
 returns-then-text-at c = stands_past _ _ _ c.idle.ensures c.if-text-at.true
 
-pub returns-then-k-eq0 : goal.returns-then-k-eq0
-returns-then-k-eq0 c = stands_empty _ _ c.if-text-at.false _ c.count-k.ensures.0 _ c.idle-then-k-eq0.ensures c.if-k-eq0.true
+pub returns-then-cells-eq0 : goal.returns-then-cells-eq0
+returns-then-cells-eq0 c = stands_empty _ _ c.if-text-at.false _ c.count-cells.ensures.0 _ c.idle-then-cells-eq0.ensures c.if-cells-eq0.true
 
 pub returns : goal.returns
-returns c = stands _ _ c.if-text-at.false _ c.count-k.ensures.0 _ c.byte_at-kind.ensures c.if-k-eq0.false
+returns c = stands _ _ c.if-text-at.false _ c.count-cells.ensures.0 _ c.byte_at.ensures c.if-cells-eq0.false

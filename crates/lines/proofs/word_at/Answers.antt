@@ -1,5 +1,4 @@
-use native.Mathlib.Omega.{arith}
-use mathlib.Core.Path.{sym}
+use Rattle.std.proofs.Common.{arith, sym}
 use Rattle.lines.specs.Line.{word_at}
 use Rattle.lines.proofs.Laws.{word_past, word_short, byte_read}
 use Rattle.lines.proofs.word_at.Goals as goal

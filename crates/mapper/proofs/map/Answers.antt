@@ -1,20 +1,26 @@
-use native.Mathlib.Omega.{arith}
-use mathlib.Core.Path.{◌∙◌}
+use Rattle.std.proofs.Common.{rules}
+use mathlib.Core.Path.{◌≡◌, ◌∙◌}
+use mathlib.Core.Bool.{true}
+use Rattle.std.proofs.lemmas.Result.{err_from_is_err_and}
+use Rattle.rules.specs.Basics.{within}
+use Rattle.rules.proofs.Lists.{within_true}
 use Rattle.netlist.proofs.FlatWell.{read_flat}
-use Rattle.mapper.proofs.Delivering.{row_small, row_large, not_read, was_read}
+use Rattle.mapper.proofs.Delivering.{bad_row, not_read, was_read}
 use Rattle.mapper.proofs.map.Goals as goal
 
-pub returns-then-row-lt2 : goal.returns-then-row-lt2
-returns-then-row-lt2 c = row_small _ _ _ c.if-row-lt2.true
+pub returns-then-not-contains : goal.returns-then-not-contains
+returns-then-not-contains c = bad_row c.args.row c.args.text.now c.args.out.now (search rules)
 
-pub returns-then-row-gt256 : goal.returns-then-row-gt256
-returns-then-row-gt256 c = row_large _ _ _ c.if-row-gt256.true
-
-pub returns-then-refusal-ne0 : goal.returns-then-refusal-ne0
-returns-then-refusal-ne0 c = not_read _ _ _ c.if-row-lt2.false c.if-row-gt256.false _ c.read-read.ensures c.if-refusal-ne0.true
+pub returns-in_err-n : goal.returns-in_err-n
+returns-in_err-n c =
+    let p = err_from_is_err_and c.from_residual.result c.from_residual.ensures.1 in
+    rw (p.1, p.2) (not_read c.args.row c.args.text.now c.args.out.now (search rules) c.in_err-n.ensures)
 
 pub map_netlist-requires : goal.map_netlist-requires
-map_netlist-requires c = (read_flat _ _ c.read-read.ensures c.if-refusal-ne0.false, (omega arith, c.if-row-gt256.false))
+map_netlist-requires c =
+    let h : within 2 256 c.args.row ≡ true = search rules in
+    let b = within_true 2 256 c.args.row h in
+    (read_flat _ _ c.in_ok-n.ensures, b.1)
 
 pub returns : goal.returns
-returns c = c.map_netlist.ensures ∙ was_read _ _ _ c.if-row-lt2.false c.if-row-gt256.false _ c.read-read.ensures c.if-refusal-ne0.false
+returns c = c.map_netlist.ensures ∙ was_read c.args.row c.args.text.now c.args.out.now (search rules) c.in_ok-n.n c.in_ok-n.ensures

@@ -1,21 +1,30 @@
-use mathlib.Core.Path.{ap, ◌∙◌}
+use native.Mathlib.Omega.{arith}
+use mathlib.Core.Path.{ap}
 use lib.ListN.{length}
-use Rattle.order.proofs.Orders.{zeros_length}
-use Rattle.mapper.specs.Whole.{BodyOf}
-use Rattle.mapper.proofs.Bodies.{plan_runnable, body_none, body_short, body_some}
 use Rattle.std.proofs.Common.{rules}
+use Rattle.std.proofs.lemmas.Result.{err_from_is_err_and}
+use Rattle.netlist.proofs.Arrays.{length_from}
+use Rattle.mapper.specs.Run.{RunOf}
+use Rattle.mapper.specs.Whole.{BodyOf}
+use Rattle.mapper.proofs.Bodies.{plan_runnable, body_none, body_some}
 use Rattle.mapper.proofs.put_body.Goals as goal
 
-pub run-r-requires : goal.run-r-requires
-run-r-requires c = plan_runnable c.args.n c.requires.0 _ (search rules) c.of-plan.ensures c.requires.1 (search rules) (rw c.no_cells-cell.ensures at c.seat.ensures) (c.seat.auto.cell ∙ ap length c.no_cells-cell.ensures ∙ zeros_length 576)
+pub run-requires : goal.run-requires
+run-requires c = plan_runnable c.args.n.now c.args.row c.requires.0 c.first.ensures (search rules) c.first-signals.ensures c.requires.1
 
-pub returns-in_default : goal.returns-in_default
-unfolding BodyOf
-returns-in_default c = body_none c.args.n c.requires.0 c.args.row (search rules) c.of-plan.ensures _ _ _ _ c.run-r.ensures c.in_default.is
+pub returns-in_err-cells : goal.returns-in_err-cells
+unfolding BodyOf RunOf
+returns-in_err-cells c =
+    let p = err_from_is_err_and c.from_residual.result c.from_residual.ensures.1 in
+    rw (p.1, p.2) (body_none c.args.n.now c.args.row c.requires.0 c.first.ensures c.in_err-cells.ensures)
 
-pub put_places-end-requires : goal.put_places-end-requires
-put_places-end-requires c = (body_short c.args.n c.requires.0 c.args.row (search rules) c.of-plan.ensures _ _ _ _ c.run-r.ensures _ _ c.in-Fits.is, c.requires.0.outputs_most)
+pub places-requires-clause-room : goal.places-requires-clause-room
+unfolding RunOf
+places-requires-clause-room c = let m = c.in_ok-cells.ensures in omega (arith, m.short)
+
+pub places-requires-clause-few : goal.places-requires-clause-few
+places-requires-clause-few c = omega (arith, ap length c.output_list.ensures, length_from c.args.n.now.outs 0 c.args.n.now.outputs, c.requires.0.well.outputs_most)
 
 pub returns : goal.returns
-unfolding BodyOf
-returns c = body_some c.args.n c.requires.0 c.args.row (search rules) c.of-plan.ensures _ _ _ _ c.run-r.ensures _ _ c.in-Fits.is c.put_places-end.ensures
+unfolding BodyOf RunOf
+returns c = body_some c.args.n.now c.args.row c.requires.0 c.first.ensures c.in_ok-cells.ensures (rw c.output_list.ensures at c.places.ensures)

@@ -1,20 +1,24 @@
 use native.Mathlib.Omega.{arith}
-use mathlib.Core.Path.{sym, ap, ◌∙◌}
+use mathlib.Core.Path.{◌≡◌, sym, ◌∙◌}
 use lib.ListN.{length}
-use Rattle.order.proofs.Bounds.{flat_fits}
-use Rattle.order.proofs.Orders.{blank_is, zeros_length, plan_none, plan_some, readers_light, outputs_placed}
 use Rattle.std.proofs.Common.{rules}
+use Rattle.netlist.proofs.Arrays.{length_from}
+use Rattle.order.proofs.Orders.{rows_lower, in_order, plan_none, plan_some, outputs_placed}
 use Rattle.order.proofs.of.Goals as goal
 
 pub returns-then-not-fits : goal.returns-then-not-fits
-returns-then-not-fits c = plan_none _ (sym c.fits.ensures ∙ c.if-not-fits.true) c.blank16-seq.ensures c.blank16-left.ensures
+returns-then-not-fits c = plan_none _ (sym c.fits.ensures.flat ∙ c.if-not-fits.true)
 
-pub in_order-count-requires : goal.in_order-count-requires
-in_order-count-requires c = (flat_fits _ (sym c.fits.ensures ∙ c.if-not-fits.false), (blank_is _ c.blank16-left.ensures, (ap length c.blank16-left.ensures ∙ zeros_length 576, (ap length c.blank16-seq.ensures ∙ zeros_length 576, blank_is _ c.blank16-seq.ensures))))
+pub visit_roots-requires-clause-lower : goal.visit_roots-requires-clause-lower
+visit_roots-requires-clause-lower c = rows_lower c.args.n.now c.weigh_all-rows.ensures (c.fits.ensures.facts c.if-not-fits.false)
 
 pub count_up-requires : goal.count_up-requires
-count_up-requires c = let w = flat_fits c.args.n (sym c.fits.ensures ∙ c.if-not-fits.false) in
-    (omega arith, (omega (arith, w.outputs_most), (readers_light c.args.n w c.in_order-count.ensures.1, outputs_placed c.args.n w _ (search rules) (c.in_order-count.auto.left ∙ ap length c.blank16-left.ensures ∙ zeros_length 576))))
+count_up-requires c = let n = c.args.n.now in
+    let w = c.fits.ensures.facts c.if-not-fits.false in
+    let l : length c.count_readers-left.result ≡ 576 = search rules in
+    rw c.output_list-outputs.ensures (record { few = omega (arith, length_from n.outs 0 n.outputs, w.outputs_most); light = c.count_readers-left.ensures.light; placed = outputs_placed n w l })
 
 pub returns : goal.returns
-returns c = plan_some _ (sym c.fits.ensures ∙ c.if-not-fits.false) (c.in_order-count.auto.seq ∙ ap length c.blank16-seq.ensures ∙ zeros_length 576) c.in_order-count.ensures.0 c.in_order-count.ensures.1 c.count_up.ensures
+returns c = let n = c.args.n.now in
+    plan_some n (sym c.fits.ensures.flat ∙ c.if-not-fits.false) (c.visit_roots.ensures ∙ rw c.new-order.ensures (in_order n c.weigh_all-rows.ensures c.count_readers-left.ensures.readers))
+    c.parts-count.ensures c.count_readers-left.ensures.readers (rw c.output_list-outputs.ensures at c.count_up.ensures)

@@ -10,7 +10,7 @@ use mathlib.Core.Path.{◌≡◌, refl}
 use mathlib.Core.List.{List, [], ◌∷◌, ◌++◌}
 use lib.ListN.{length, replicate}
 use Rattle.rules.specs.Form.{form01}
-use Rattle.rules.specs.Refusals.{Res, good, refused, refuse}
+use Rattle.rules.specs.Refusals.{Res, good, refused}
 use Rattle.rules.specs.Netlist.{netlist_of}
 use Rattle.rules.specs.Calls.{Outcome, map_outcome, evaluate_outcome, check_outcome, simulate_outcome}
 use Rattle.rules.specs.Calls.{rowmap_output, rowcheck_output, tail_outcome, frame_outcome, place_outcome}
@@ -21,7 +21,7 @@ abbrev pub gives : ℕ → List ℕ → Outcome
 gives n lent = record { answer = good n; lent = lent }
 
 abbrev pub keeps : ℕ → List ℕ → Outcome
-keeps n lent = record { answer = refuse n; lent = lent }
+keeps n lent = record { answer = refused n; lent = lent }
 
 -- a text in a buffer of zeros
 abbrev pub in_buffer : List ℕ → ℕ → Outcome
@@ -30,7 +30,7 @@ in_buffer text size = gives (length text) (text ++ replicate (size - length text
 -- a refusal's number, 0 where there is none
 unfoldable pub number : {A : Type 0} → Res A → ℕ
 number (good a) = 0
-number (refused r) = r.number
+number (refused r) = r
 ";
 
 /// A kind of case: its name, what the proof unfolds, and the equations.
@@ -94,7 +94,7 @@ fn list(bytes: &[u8]) -> String {
 }
 
 fn refuse(number: u8) -> String {
-    format!("refuse {number}")
+    format!("refused {number}")
 }
 
 // One function a kind of case: it computes the right side from the left.

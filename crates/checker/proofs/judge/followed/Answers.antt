@@ -1,14 +1,25 @@
-use Rattle.checker.proofs.Answering.{outputs_few, follow_refused, follow_misplaced, follow_passed}
+use Rattle.std.proofs.Common.{rules, ◌≡◌, Err}
+use Rattle.checker.proofs.Answering.{outputs_few, listed_few, inputs_same, follow_refused, follow_misplaced, follow_passed}
 use Rattle.checker.proofs.judge.followed.Goals as goal
 
-pub returns-then-refusal-ne0 : goal.returns-then-refusal-ne0
-returns-then-refusal-ne0 c = follow_refused _ _ _ c.requires _ _ _ _ c.gate_keys-keys.ensures c.chain-chains.ensures c.first-b.ensures c.worked-o.ensures c.if-refusal-ne0.true
+pub worked-requires : goal.worked-requires
+worked-requires c = inputs_same _ _ _ c.requires _ c.of-gates.ensures _ c.first-book.ensures
+
+pub returns-in_err-worked : goal.returns-in_err-worked
+returns-in_err-worked c =
+    let e : c.from_residual.result ≡ Err c.in_err-worked.field-0.0 = search rules in
+    rw e (follow_refused _ _ _ c.requires _ c.of-gates.ensures _ _ _ c.first-book.ensures c.worked.ensures _ c.in_err-worked.was)
+
+pub output_list-requires : goal.output_list-requires
+output_list-requires c = outputs_few _ _ _ c.requires
 
 pub hold-requires : goal.hold-requires
-hold-requires c = outputs_few _ _ _ c.requires
+hold-requires c = listed_few _ _ _ c.requires _ c.output_list.ensures
 
 pub returns-then-not-hold : goal.returns-then-not-hold
-returns-then-not-hold c = follow_misplaced _ _ _ c.requires _ _ _ _ c.gate_keys-keys.ensures c.chain-chains.ensures c.first-b.ensures c.worked-o.ensures c.if-refusal-ne0.false _ c.hold.ensures (c.if-not-hold.true)
+returns-then-not-hold c =
+    follow_misplaced _ _ _ c.requires _ c.of-gates.ensures _ _ _ c.first-book.ensures c.worked.ensures c.in_ok-worked.was _ c.output_list.ensures _ c.hold.ensures c.if-not-hold.true
 
 pub returns : goal.returns
-returns c = follow_passed _ _ _ c.requires _ _ _ _ c.gate_keys-keys.ensures c.chain-chains.ensures c.first-b.ensures c.worked-o.ensures c.if-refusal-ne0.false _ c.hold.ensures (c.if-not-hold.false)
+returns c =
+    follow_passed _ _ _ c.requires _ c.of-gates.ensures _ _ _ c.first-book.ensures c.worked.ensures c.in_ok-worked.was _ c.output_list.ensures _ c.hold.ensures c.if-not-hold.false

@@ -1,9 +1,6 @@
-use Prim.Native.Nat.{◌-◌}
-use Rattle.netlist.proofs.Keyed.{Keying}
+use Rattle.std.proofs.Common.{◌≡◌}
+use Rattle.netlist.specs.Keys.{keys_to}
 use Rattle.netlist.proofs.keys.gate_keys.Given as goal
 
 abbrev pub invariant-loop-g : goal.invariant-loop-g
-invariant-loop-g l = Keying l.ops l.counts l.most l.keys l.g
-
-abbrev pub decreases-loop-g : goal.decreases-loop-g
-decreases-loop-g l = l.most - l.g
+invariant-loop-g l = l.keys ≡ keys_to l.n.ops l.n.counts l.g

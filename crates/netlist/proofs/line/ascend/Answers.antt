@@ -1,12 +1,8 @@
-use native.Mathlib.Omega.{arith}
-use Rattle.netlist.proofs.Operands.{ascend_turn, ascend_stop, ascend_end}
+use lib.Dec.{ltb}
+use Rattle.std.proofs.lemmas.Fn.{always_returns_same}
+use Rattle.netlist.proofs.Ascending.{ascending_is}
+use Rattle.std.proofs.Common.{rules}
 use Rattle.netlist.proofs.line.ascend.Goals as goal
 
-pub returns-then-ops-place : goal.returns-then-ops-place
-returns-then-ops-place c = ascend_stop c.loop-j.invariant c.loop-j-test.true (omega (arith, c.if-ops-place.true))
-
-pub loop-j-preserved : goal.loop-j-preserved
-loop-j-preserved c = ascend_turn c.loop-j.invariant c.loop-j-test.true c.if-ops-place.false
-
 pub returns : goal.returns
-returns c = ascend_end c.loop-j.invariant c.loop-j-test.false
+returns c = ascending_is _ _ (c.is_sorted_by.ensures.cases ltb (always_returns_same _ _ _ (λ a r f k. search rules)))

@@ -1,9 +1,6 @@
-use Prim.Native.Nat.{◌-◌}
-use Rattle.netlist.proofs.Operands.{Stored}
+use Rattle.std.proofs.Common.{◌≡◌, ℕ, ◌+◌, ◌*◌, ◌<◌, get_or}
+use Rattle.lines.specs.Line.{word_at}
 use Rattle.netlist.proofs.line.store.Given as goal
 
-abbrev pub invariant-loop-j : goal.invariant-loop-j
-invariant-loop-j l = Stored l.text l.at l.k l.initial.ops l.place l.ops l.j
-
-abbrev pub decreases-loop-j : goal.decreases-loop-j
-decreases-loop-j l = l.k - l.j
+abbrev pub invariant-loop-k : goal.invariant-loop-k
+invariant-loop-k l = (i : ℕ) → i < l.k → get_or l.os i 0 ≡ word_at l.text (l.at + 4 * i)

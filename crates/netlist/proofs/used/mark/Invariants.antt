@@ -1,9 +1,6 @@
-use Prim.Native.Nat.{◌-◌}
-use Rattle.netlist.proofs.Marking.{Marking}
+use Rattle.std.proofs.Common.{◌≡◌, drop, true}
+use Rattle.rules.specs.Basics.{set_all}
 use Rattle.netlist.proofs.used.mark.Given as goal
 
-abbrev pub invariant-loop-k : goal.invariant-loop-k
-invariant-loop-k l = Marking l.list l.at l.n l.initial.marks l.marks l.k
-
-abbrev pub decreases-loop-k : goal.decreases-loop-k
-decreases-loop-k l = l.n - l.k
+abbrev pub invariant-loop-s : goal.invariant-loop-s
+invariant-loop-s l = set_all true (drop l.s-index l.list) l.marks ≡ set_all true l.list l.initial.marks

@@ -1,18 +1,21 @@
-use mathlib.Core.Path.{sym, ◌∙◌}
-use Rattle.order.proofs.Bounds.{many_inputs, many_gates, many_outputs, bad_gate, good_gates}
+use native.Mathlib.Omega.{arith}
+use mathlib.Core.Path.{◌≡◌, sym, ◌∙◌}
+use Rattle.std.proofs.lemmas.Grind.{common_steps}
+use Rattle.order.specs.Plan.{is_flat}
+use Rattle.order.proofs.Bounds.{gates_is, flat_fits}
 use Rattle.order.proofs.limits.fits.Goals as goal
 
-pub returns-then-n-gt64 : goal.returns-then-n-gt64
-returns-then-n-gt64 c = many_inputs _ c.if-n-gt64.true
+pub returns-then-gates_fit : goal.returns-then-gates_fit
+unfolding is_flat
+returns-then-gates_fit c = let n = c.args.n.now in
+    let f = rw c.output_list.ensures at c.all_below.ensures in
+    let g = gates_is n.inputs n.ops n.counts 0 n.gates in
+    let e : c.all_below.result ≡ is_flat n = grind (arith, common_steps, f, g) in
+    record { flat = e; facts = λ t. flat_fits n (sym e ∙ t) }
 
-pub returns-then-n-gt512 : goal.returns-then-n-gt512
-returns-then-n-gt512 c = many_gates _ c.if-n-gt64.false c.if-n-gt512.true
-
-pub returns-then-n-gt64-2 : goal.returns-then-n-gt64-2
-returns-then-n-gt64-2 c = many_outputs _ c.if-n-gt64.false c.if-n-gt512.false c.if-n-gt64-2.true
-
-pub returns-then-not-gates_fit : goal.returns-then-not-gates_fit
-returns-then-not-gates_fit c = bad_gate _ c.if-n-gt64.false c.if-n-gt512.false c.if-n-gt64-2.false (sym c.gates_fit.ensures ∙ c.if-not-gates_fit.true)
-
-pub returns : goal.returns
-returns c = good_gates _ c.if-n-gt64.false c.if-n-gt512.false c.if-n-gt64-2.false (sym c.gates_fit.ensures ∙ c.if-not-gates_fit.false) c.all_below.ensures
+pub returns-else-gates_fit : goal.returns-else-gates_fit
+unfolding is_flat
+returns-else-gates_fit c = let n = c.args.n.now in
+    let g = gates_is n.inputs n.ops n.counts 0 n.gates in
+    let e : c.if-n-le64-2.value ≡ is_flat n = grind (arith, common_steps, g) in
+    record { flat = e; facts = λ t. flat_fits n (sym e ∙ t) }

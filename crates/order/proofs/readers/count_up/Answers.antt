@@ -1,13 +1,18 @@
 use native.Mathlib.Omega.{arith}
-use mathlib.Core.Path.{refl}
-use Rattle.order.proofs.Counting.{up_small, up_turn, up_end}
+use Rattle.order.proofs.Counting.{up_small, up_place, up_turn, up_end}
 use Rattle.order.proofs.readers.count_up.Goals as goal
 
-pub overflow_add-c : goal.overflow_add-c
-overflow_add-c c = omega (arith, up_small c.loop-k.invariant _ _ c.requires.1.1.0 c.requires.1.0 c.at16-c.ensures)
+pub bounds-left-from : goal.bounds-left-from
+bounds-left-from c = omega (arith, up_place c.loop-o.invariant c.loop-o-test.true c.requires.placed c.from.ensures)
 
-pub loop-k-preserved : goal.loop-k-preserved
-loop-k-preserved c = rw c.put16.ensures (up_turn c.loop-k.invariant c.loop-k-test.true c.at16-o.ensures c.requires.1.1.1 c.at16-c.ensures refl)
+pub overflow_add-left : goal.overflow_add-left
+overflow_add-left c = record { fits = omega (arith, up_small c.loop-o.invariant c.from.result c.requires.light c.requires.few) }
+
+pub bounds-left-from-in-loop-o : goal.bounds-left-from-in-loop-o
+bounds-left-from-in-loop-o c = omega (arith, up_place c.loop-o.invariant c.loop-o-test.true c.requires.placed c.from.ensures)
+
+pub loop-o-preserved : goal.loop-o-preserved
+loop-o-preserved c = up_turn c.loop-o.invariant c.loop-o-test.true c.requires.placed c.from.ensures
 
 pub returns : goal.returns
-returns c = up_end c.loop-k.invariant c.loop-k-test.false
+returns c = up_end c.loop-o.invariant c.loop-o-test.false

@@ -1,22 +1,29 @@
+use Prim.Native.Nat.{◌<◌}
 use native.Mathlib.Omega.{arith}
-use borrow.Author.Tests.{eq-eqb, ne_eqb}
-use mathlib.Core.Path.{sym, ◌∙◌}
-use Rattle.order.proofs.Walking.{walking_turn, walking_done, walking_none, operand_lower}
+use mathlib.Core.Path.{◌≡◌, sym, ◌∙◌}
+use mathlib.Core.List.{[]}
+use Rattle.std.proofs.Common.{rules}
+use Rattle.std.proofs.lemmas.List.{get_or_default}
+use Rattle.order.specs.Visit.{ops_in}
+use Rattle.order.proofs.Walking.{operand_lower, walking_turn, walking_done, walking_none}
 use Rattle.order.proofs.visit.+visit.Goals as goal
 
-pub returns-then-at8-eq1 : goal.returns-then-at8-eq1
-returns-then-at8-eq1 t c = let p = c.requires in
-    walking_none _ _ _ _ _ p.tied (sym (p.tied.mark _ p.inside) ∙ eq-eqb _ _ (sym c.at8.ensures ∙ c.if-at8-eq1.true))
+pub returns-then-has : goal.returns-then-has
+returns-then-has t c = walking_none _ _ _ (sym c.has.ensures ∙ c.if-has.true)
 
-pub visit-m-requires : goal.visit-m-requires
-visit-m-requires t c = let p = c.requires in
-    let a = c.args in
-    let l = operand_lower a.vis.now a.cnt.now a.s c.loop-j.j p.lower (rw c.at8-k.ensures at c.loop-j-test.true) in
-    (omega (arith, l, c.at16-o.ensures, c.requires), record { lower = p.lower; tied = c.loop-j.invariant.tied; inside = omega (arith, l, c.at16-o.ensures, p.inside, c.loop-j.invariant.same); small = omega (arith, c.loop-j.invariant.same, p.small) })
+pub visit-requires : goal.visit-requires
+visit-requires t c = let rows = c.args.rows.now in
+    let r : c.signals-o-items.result.now ≡ ops_in rows c.args.s = c.signals-o-items.ensures ∙ get_or_default rows c.args.s _ [] (search rules) in
+    let l = operand_lower (ops_in rows) c.args.s c.loop-o.o-index c.requires.lower (rw r at c.loop-o-test.true) in
+    let f : c.from.result < c.args.s = rw (c.from.ensures, r) l in
+    (omega (arith, f, c.decreases), (c.requires.lower, omega (arith, f, c.requires.signal)))
 
-pub loop-j-preserved : goal.loop-j-preserved
-loop-j-preserved t c = walking_turn c.requires.lower c.loop-j.invariant (rw c.at8-k.ensures at c.loop-j-test.true) c.at16-o.ensures c.visit-m.ensures
+pub loop-o-preserved : goal.loop-o-preserved
+loop-o-preserved t c = let rows = c.args.rows.now in
+    let r : c.signals-o-items.result.now ≡ ops_in rows c.args.s = c.signals-o-items.ensures ∙ get_or_default rows c.args.s _ [] (search rules) in
+    rw c.visit.ensures (walking_turn c.requires.lower c.loop-o.invariant (rw r at c.loop-o-test.true) (rw r at c.from.ensures))
 
 pub returns : goal.returns
-returns t c = let p = c.requires in
-    walking_done p.lower c.loop-j.invariant (rw c.at8-k.ensures at c.loop-j-test.false) (sym (p.tied.mark _ p.inside) ∙ ne_eqb _ _ (λ e. c.if-at8-eq1.false (c.at8.ensures ∙ e))) c.append.ensures
+returns t c = let rows = c.args.rows.now in
+    let r : c.signals-o-items.result.now ≡ ops_in rows c.args.s = c.signals-o-items.ensures ∙ get_or_default rows c.args.s _ [] (search rules) in
+    c.append.ensures ∙ walking_done c.requires.lower c.loop-o.invariant (rw r at c.loop-o-test.false) (sym c.has.ensures ∙ c.if-has.false)

@@ -1,9 +1,17 @@
-use mathlib.Core.Path.{refl}
-use Rattle.order.proofs.Sorting.{sorting_start, sorting_turn}
+use Rattle.order.proofs.Sorting.{sorting_start, sorting_room, sorting_gate, sorting_input, sorting_end}
 use Rattle.order.proofs.weights.sorted.Goals as goal
 
-pub loop-j-init : goal.loop-j-init
-loop-j-init c = sorting_start _ _ _ _ _ _ refl
+pub loop-x-init : goal.loop-x-init
+loop-x-init c = sorting_start _ _ _ _ _ c.none-f.ensures (rw (c.into_iter-x-iterator.ensures.into_iter_gives, c.rev-x-items.ensures.source) c.iter.ensures.rest)
 
-pub loop-j-preserved : goal.loop-j-preserved
-loop-j-preserved c = sorting_turn _ _ _ _ _ _ _ _ c.loop-j-test.true c.loop-j.invariant (rw (← c.at16-x.ensures) c.add-f.ensures)
+pub insert-requires : goal.insert-requires
+insert-requires c = sorting_room c.loop-x.invariant _ _ c.in-Some.ensures.steps c.requires
+
+pub loop-x-preserved-then-inputs-from : goal.loop-x-preserved-then-inputs-from
+loop-x-preserved-then-inputs-from c = rw c.insert.ensures (sorting_gate c.loop-x.invariant _ _ c.in-Some.ensures.steps (rw c.from.ensures at c.if-inputs-from.true))
+
+pub loop-x-preserved : goal.loop-x-preserved
+loop-x-preserved c = sorting_input c.loop-x.invariant _ _ c.in-Some.ensures.steps (rw c.from.ensures at c.if-inputs-from.false)
+
+pub returns : goal.returns
+returns c = sorting_end _ c.loop-x.invariant c.in-None.ensures.steps.0

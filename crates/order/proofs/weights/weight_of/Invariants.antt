@@ -1,10 +1,6 @@
-use Prim.Native.Nat.{◌-◌}
 use Rattle.rules.specs.Weight.{weight_in}
 use Rattle.order.proofs.Sorting.{Peaking}
 use Rattle.order.proofs.weights.weight_of.Given as goal
 
 abbrev pub invariant-loop-j : goal.invariant-loop-j
-invariant-loop-j l = Peaking (weight_in l.wts) l.f l.w l.j
-
-abbrev pub decreases-loop-j : goal.decreases-loop-j
-decreases-loop-j l = l.n - l.j
+invariant-loop-j l = Peaking (weight_in l.wts) l.signals l.w l.j

@@ -1,12 +1,18 @@
 use native.Mathlib.Omega.{arith}
 use Rattle.rules.specs.Values.{nor}
 use Rattle.row.proofs.Decoding.{walk_turn, walk_end}
-use Rattle.row.proofs.Running.{nor_turn, nor_ends}
+use Rattle.row.proofs.Running.{nor_lowered, nor_kept, nor_ends}
 use Rattle.row.proofs.device.nor.Goals as goal
-
-pub returns-in_default : goal.returns-in_default
-unfolding nor
-returns-in_default c = nor_ends _ _ _ _ _ (walk_end c.loop-c.invariant _ c.cell_at-n.ensures c.in_default.is _ (omega arith))
+use Rattle.row.proofs.device.nor.Goals.{then-at-ne0, else-at-ne0}
 
 pub loop-c-preserved : goal.loop-c-preserved
-loop-c-preserved c = walk_turn c.loop-c.invariant _ c.cell_at-n.ensures _ _ c.in-Cell.is (nor_turn _ _ _ _ _ _ c.at8.ensures c.lowered-value.ensures)
+loop-c-preserved c =
+    walk_turn c.loop-c.invariant _ _ c.in-Some.ensures
+    (elim c.if-at-ne0.branch [
+      | then-at-ne0 w ↦ nor_lowered _ _ _ _ _ _ c.at.ensures w.if-at-ne0.true w.value-is
+      | else-at-ne0 w ↦ nor_kept _ _ _ _ _ _ c.at.ensures w.if-at-ne0.false w.value-is
+    ])
+
+pub returns : goal.returns
+unfolding nor
+returns c = nor_ends _ _ _ _ _ (walk_end c.loop-c.invariant c.in_default.ensures _ (omega arith))

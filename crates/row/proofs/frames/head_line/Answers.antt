@@ -1,25 +1,20 @@
-use mathlib.Core.Path.{sym, ap, ◌∙◌}
-use native.Mathlib.Omega.{arith}
-use Rattle.lines.specs.Line.{refusal_of}
-use Rattle.lines.proofs.Laws.{byte_read}
-use Rattle.row.specs.declared.Reading.{Reading}
-use Rattle.row.proofs.Heading.{head_refused, head_kind, head_length, head_unfit, head_good}
+use Rattle.std.proofs.Common.{rules, sym, ◌∙◌}
+use Rattle.row.proofs.Heading.{head_refused, head_other, head_length, head_unfit, head_good}
 use Rattle.row.proofs.frames.head_line.Goals as goal
+use Rattle.row.proofs.frames.head_line.Goals.{then-byte_at-via-then-byte_at, then-byte_at-via-else-byte_at+then-n-ne-HEAD_DIGITS}
 
-pub returns-in_default : goal.returns-in_default
-returns-in_default c = ap Reading.Refused (c.refusal.ensures ∙ ap refusal_of c.in_default.is) ∙ head_refused _ _ _ c.read_line-l.ensures c.in_default.is
+pub returns-in_default-clause-means : goal.returns-in_default-clause-means
+returns-in_default-clause-means c = search (rules, head_refused)
 
-pub returns-then-byte_at-ne-KIND_HEAD : goal.returns-then-byte_at-ne-KIND_HEAD
-returns-then-byte_at-ne-KIND_HEAD c = head_kind _ _ _ (sym c.read_line-l.ensures ∙ c.in-Frame.is) c.byte_at.ensures c.if-byte_at-ne-KIND_HEAD.true
+pub returns-then-byte_at-clause-means : goal.returns-then-byte_at-clause-means
+returns-then-byte_at-clause-means c =
+    elim c.then-byte_at.branch [
+      | then-byte_at-via-then-byte_at w ↦ head_other _ _ _ c.in-Ok.ensures c.byte_at.ensures w.if-byte_at.true
+      | then-byte_at-via-else-byte_at+then-n-ne-HEAD_DIGITS w ↦ head_length _ _ _ c.in-Ok.ensures c.byte_at.ensures w.if-byte_at.false w.if-n-ne-HEAD_DIGITS.true
+    ]
 
-pub returns-then-n-ne12 : goal.returns-then-n-ne12
-returns-then-n-ne12 c = head_length _ _ _ (sym c.read_line-l.ensures ∙ c.in-Frame.is) c.byte_at.ensures c.if-byte_at-ne-KIND_HEAD.false c.if-n-ne12.true
+pub returns-then-not-fit-clause-means : goal.returns-then-not-fit-clause-means
+returns-then-not-fit-clause-means c = head_unfit _ _ _ c.in-Ok.ensures c.byte_at.ensures c.if-byte_at.false c.if-n-ne-HEAD_DIGITS.false _ _ _ _ c.byte_at-2.ensures c.byte_at-3.ensures c.byte_at-4.ensures c.word_at.ensures (sym c.fit.ensures ∙ c.if-not-fit.true)
 
-pub overflow_add-row : goal.overflow_add-row
-overflow_add-row c = omega (arith, byte_read _ _ _ c.byte_at-row.ensures)
-
-pub returns-then-not-numbers_fit : goal.returns-then-not-numbers_fit
-returns-then-not-numbers_fit c = head_unfit _ _ _ (sym c.read_line-l.ensures ∙ c.in-Frame.is) c.byte_at.ensures c.if-byte_at-ne-KIND_HEAD.false c.if-n-ne12.false _ _ _ _ c.byte_at-row.ensures c.byte_at-inputs.ensures c.byte_at-outputs.ensures c.word_at-instructions.ensures (sym c.numbers_fit.ensures ∙ c.if-not-numbers_fit.true)
-
-pub returns : goal.returns
-returns c = head_good _ _ _ (sym c.read_line-l.ensures ∙ c.in-Frame.is) c.byte_at.ensures c.if-byte_at-ne-KIND_HEAD.false c.if-n-ne12.false _ _ _ _ c.byte_at-row.ensures c.byte_at-inputs.ensures c.byte_at-outputs.ensures c.word_at-instructions.ensures (sym c.numbers_fit.ensures ∙ c.if-not-numbers_fit.false)
+pub returns-clause-means : goal.returns-clause-means
+returns-clause-means c = head_good _ _ _ c.in-Ok.ensures c.byte_at.ensures c.if-byte_at.false c.if-n-ne-HEAD_DIGITS.false _ _ _ _ c.byte_at-2.ensures c.byte_at-3.ensures c.byte_at-4.ensures c.word_at.ensures (sym c.fit.ensures ∙ c.if-not-fit.false)

@@ -1,28 +1,20 @@
-use mathlib.Core.Path.{sym, ap, ◌∙◌}
-use native.Mathlib.Omega.{arith}
-use Rattle.rules.specs.declared.Answer.{Answer}
-use Rattle.lines.specs.Line.{refusal_of}
-use Rattle.lines.proofs.Meaning.{frame_fits}
-use Rattle.row.proofs.Framed.{line_refused, place_kind_lem, place_length, place_one}
+use Rattle.std.proofs.Common.{rules}
+use Rattle.row.proofs.Framed.{line_refused, place_other, place_length, place_past, place_one}
 use Rattle.row.proofs.frames.place_line.Goals as goal
+use Rattle.row.proofs.frames.place_line.Goals.{then-byte_at-via-then-byte_at, then-byte_at-via-else-byte_at+then-n-ne4}
 
 pub returns-in_default : goal.returns-in_default
-returns-in_default c = ap Answer.Refused (c.refusal.ensures ∙ ap refusal_of c.in_default.is) ∙ line_refused _ _ _ _ _ c.read_line-l.ensures c.in_default.is
+returns-in_default c = search (rules, line_refused)
 
-pub returns-then-byte_at-ne-KIND_PLACE : goal.returns-then-byte_at-ne-KIND_PLACE
-returns-then-byte_at-ne-KIND_PLACE c = place_kind_lem _ _ _ _ _ (sym c.read_line-l.ensures ∙ c.in-Frame.is) c.byte_at.ensures c.if-byte_at-ne-KIND_PLACE.true
+pub returns-then-byte_at : goal.returns-then-byte_at
+returns-then-byte_at c =
+    elim c.then-byte_at.branch [
+      | then-byte_at-via-then-byte_at w ↦ place_other _ _ _ _ _ c.in-Ok.ensures c.byte_at.ensures w.if-byte_at.true
+      | then-byte_at-via-else-byte_at+then-n-ne4 w ↦ place_length _ _ _ _ _ c.in-Ok.ensures c.byte_at.ensures w.if-byte_at.false w.if-n-ne4.true
+    ]
 
-pub returns-then-n-ne4 : goal.returns-then-n-ne4
-returns-then-n-ne4 c = place_length _ _ _ _ _ (sym c.read_line-l.ensures ∙ c.in-Frame.is) c.byte_at.ensures c.if-byte_at-ne-KIND_PLACE.false c.if-n-ne4.true
-
-pub overflow_add-at : goal.overflow_add-at
-overflow_add-at c = let f = frame_fits _ _ _ (sym c.read_line-l.ensures ∙ c.in-Frame.is) in omega (arith, f.inside)
-
-pub overflow_add-at-2 : goal.overflow_add-at-2
-overflow_add-at-2 c = let f = frame_fits _ _ _ (sym c.read_line-l.ensures ∙ c.in-Frame.is) in omega (arith, f.inside)
-
-pub overflow_add-at-3 : goal.overflow_add-at-3
-overflow_add-at-3 c = let f = frame_fits _ _ _ (sym c.read_line-l.ensures ∙ c.in-Frame.is) in omega (arith, f.inside)
+pub returns-then-row-byte_at : goal.returns-then-row-byte_at
+returns-then-row-byte_at c = place_past _ _ _ _ _ c.in-Ok.ensures c.byte_at.ensures c.if-byte_at.false c.if-n-ne4.false _ c.byte_at-2.ensures c.if-row-byte_at.true
 
 pub returns : goal.returns
-returns c = c.judged.ensures ∙ place_one _ _ _ _ _ (sym c.read_line-l.ensures ∙ c.in-Frame.is) c.byte_at.ensures c.if-byte_at-ne-KIND_PLACE.false c.if-n-ne4.false _ c.byte_at-2.ensures
+returns c = place_one _ _ _ _ _ c.in-Ok.ensures c.byte_at.ensures c.if-byte_at.false c.if-n-ne4.false _ c.byte_at-2.ensures c.if-row-byte_at.false

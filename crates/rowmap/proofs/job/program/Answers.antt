@@ -1,14 +1,15 @@
-use Rattle.rowmap.proofs.Prints.{prints_long, prints_refused, prints_mapped, prints_told}
+use native.Mathlib.Omega.{arith}
+use lib.ListN.{length}
+use Rattle.rules.specs.Refusals.{number_of}
+use Rattle.rowmap.proofs.Prints.{printed_most, prints_text, prints_refusal}
 use Rattle.rowmap.proofs.job.program.Goals as goal
 
-pub returns-then-input-gt65536 : goal.returns-then-input-gt65536
-returns-then-input-gt65536 c = prints_long c.args.input.now c.args.out.now _ c.if-input-gt65536.true c.put_refusal.ensures
+pub returns-in-Ok : goal.returns-in-Ok
+returns-in-Ok c =
+    let p = prints_text c.args.input.now c.args.out.now _ _ c.in-Ok.ensures in
+    record { within = λ h. omega (arith, p.0, printed_most (length c.args.out.now) c.args.input.now h); long = p.0; printed = p.1 }
 
-pub returns-in_default : goal.returns-in_default
-returns-in_default c = prints_refused c.args.input.now c.args.out.now c.if-input-gt65536.false _ _ _ _ c.read_job-j.ensures c.in_default.is c.refusal.ensures c.put_refusal-in_default.ensures
-
-pub returns-in-Given : goal.returns-in-Given
-returns-in-Given c = prints_mapped c.args.input.now c.args.out.now c.if-input-gt65536.false _ _ c.read_job-j.ensures c.in-Row.is _ _ _ c.rest8-netlist.ensures c.map-a.ensures _ c.in-Given.is
-
-pub returns-in-Refused : goal.returns-in-Refused
-returns-in-Refused c = prints_told c.args.input.now c.args.out.now c.if-input-gt65536.false _ _ c.read_job-j.ensures c.in-Row.is _ _ _ c.rest8-netlist.ensures c.map-a.ensures _ _ c.in-Refused.is c.put_refusal-in-Refused.ensures
+pub returns-in-Err : goal.returns-in-Err
+returns-in-Err c =
+    let p = prints_refusal c.args.input.now c.args.out.now _ (number_of c.in-Err.r) c.in-Err.ensures c.put_refusal.ensures in
+    record { within = λ h. h; long = p.0; printed = p.1 }

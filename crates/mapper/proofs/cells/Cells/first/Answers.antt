@@ -1,8 +1,17 @@
-use Rattle.mapper.proofs.Cellwise.{seating_start, seating_turn}
+use native.Mathlib.Omega.{arith}
+use mathlib.Core.Path.{◌≡◌, ap, ◌∙◌}
+use lib.ListN.{replicate, length, length-replicate, take}
+use lib.Seq.{length-take-le}
+use Rattle.std.proofs.lemmas.List.{drop-replicate}
+use Rattle.mapper.specs.declared.cells.Hold.{Hold}
+use Rattle.mapper.specs.declared.cells.Hold.TheVariants.{Spent, Keeps}
+use Rattle.mapper.specs.Held.{first_held}
 use Rattle.mapper.proofs.cells.Cells.first.Goals as goal
 
-pub loop-i-init : goal.loop-i-init
-loop-i-init c = seating_start c.all_spent-held.ensures
-
-pub loop-i-preserved : goal.loop-i-preserved
-loop-i-preserved c = seating_turn c.requires c.loop-i-test.true c.loop-i.invariant
+pub returns : goal.returns
+unfolding first_held
+returns c =
+    let all : length (replicate {A = Hold} 256 Spent) ≡ 256 = length-replicate 256 Spent in
+    let n : length (take c.args.inputs (replicate {A = Hold} 256 Spent)) ≡ c.args.inputs = length-take-le _ _ (omega (arith, all)) in
+    let e : c.fill.new.self ≡ replicate c.args.inputs Keeps = c.fill.ensures.after (λ y h. h) ∙ ap (λ k. replicate k Keeps) n in
+    rw (e, drop-replicate)

@@ -1,14 +1,15 @@
-use mathlib.Core.Path.{sym, ◌∙◌}
-use Rattle.mapper.proofs.Cellwise.{release_takes, release_leaves, release_end}
+use mathlib.Core.Path.{refl, sym, ◌∙◌}
+use Rattle.mapper.proofs.Tabling.{spend_this, spend_other, spend_end}
 use Rattle.mapper.proofs.cells.Cells.release.Goals as goal
 use Rattle.mapper.proofs.cells.Cells.release.Goals.{then-is_free, else-is_free}
 
-pub loop-j-preserved : goal.loop-j-preserved
-loop-j-preserved c =
+pub loop-o-preserved : goal.loop-o-preserved
+loop-o-preserved c =
     elim c.if-is_free.branch [
-      | then-is_free w ↦ rw w.self-is (release_takes c.loop-j.invariant c.loop-j-test.true c.at16-o.ensures (sym c.is_free.ensures ∙ w.if-is_free.true) w.at8-c.ensures)
-      | else-is_free w ↦ rw w.self-is (release_leaves c.loop-j.invariant c.loop-j-test.true c.at16-o.ensures (sym c.is_free.ensures ∙ w.if-is_free.false))
+      | then-is_free w ↦ rw w.self-is (spend_this c.loop-o.invariant c.loop-o-test.true refl (sym c.is_free.ensures ∙ w.if-is_free.true)
+          (w.from-then-is_free.ensures ∙ (rw w.from.ensures at w.at-c.ensures)))
+      | else-is_free w ↦ rw w.self-is (spend_other c.loop-o.invariant c.loop-o-test.true refl (sym c.is_free.ensures ∙ w.if-is_free.false))
     ]
 
 pub returns : goal.returns
-returns c = release_end c.loop-j.invariant c.loop-j-test.false
+returns c = spend_end c.loop-o.invariant c.loop-o-test.false

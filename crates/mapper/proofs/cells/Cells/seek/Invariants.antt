@@ -1,9 +1,6 @@
-use Prim.Native.Nat.{◌-◌}
-use Rattle.mapper.proofs.Cellwise.{Seeking}
+use Rattle.std.proofs.Common.{◌≡◌}
+use Rattle.mapper.specs.Held.{NoneBelow}
 use Rattle.mapper.proofs.cells.Cells.seek.Given as goal
 
-abbrev pub invariant-loop-i : goal.invariant-loop-i
-invariant-loop-i l = Seeking l.initial.self l.self l.i
-
-abbrev pub decreases-loop-i : goal.decreases-loop-i
-decreases-loop-i l = l.n - l.i
+abbrev pub invariant-loop-c : goal.invariant-loop-c
+invariant-loop-c l = (l.self ≡ l.initial.self) × NoneBelow l.initial.self.held l.c

@@ -1,5 +1,9 @@
-use Rattle.mapper.specs.Held.{later}
+use mathlib.Core.Path.{refl}
+use Rattle.mapper.specs.Held.{at_once, later}
 use Rattle.mapper.proofs.cells.Cells.with_room.Goals as goal
 
+pub returns-in-Some : goal.returns-in-Some
+returns-in-Some c = at_once _ refl c.in-Some.ensures refl
+
 pub returns : goal.returns
-returns c = later _ _ c.seek-t.ensures c.if-t.false c.set_spent-u.ensures c.seek.ensures
+returns c = later _ c.in_default.ensures c.set_spent.ensures c.seek-2.ensures
