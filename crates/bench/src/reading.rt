@@ -3,22 +3,15 @@ ghost use Rattle.std.specs.Prelude.{◌≡◌, ◌≤◌, length};
 
 use crate::say;
 use lines::kind::Kind;
+use lines::write;
 use std::io;
 
-// A two-byte number's digits at a place.
-fn put_word(out: &mut [u8], at: usize, n: usize)
-    requires { at ≤ 8192 }
-{
-    lines::write::put_byte(out, at, (n / 256 % 256) as u8);
-    lines::write::put_byte(out, at + 2, (n % 256) as u8);
-}
-
 // Gate j of a chain reads the gate before it, the first one the last input.
-fn put_gate(out: &mut [u8], at: usize, operand: usize)
+fn put_gate(out: &mut [u8], at: usize, operand: u16)
     requires { at ≤ 8000 }
 {
-    lines::write::put_byte(out, at, Kind::Gate as u8);
-    put_word(out, at + 2, operand);
+    write::put_byte(out, at, Kind::Gate as u8);
+    write::put_word(out, at + 2, operand);
     slices::put(out, at + 6, b'\n');
 }
 
@@ -26,17 +19,17 @@ fn put_gate(out: &mut [u8], at: usize, operand: usize)
 pub(crate) fn put_chain(out: &mut [u8], inputs: usize, gates: usize) -> usize
     requires { ((1 ≤ inputs) × (inputs ≤ 100)) × ((1 ≤ gates) × (gates ≤ 600)) }
 {
-    lines::write::put_byte(out, 0, Kind::Netlist as u8);
-    lines::write::put_byte(out, 2, (inputs % 256) as u8);
-    put_word(out, 4, gates);
-    lines::write::put_byte(out, 8, 1);
+    write::put_byte(out, 0, Kind::Netlist as u8);
+    write::put_byte(out, 2, inputs as u8);
+    write::put_word(out, 4, gates as u16);
+    write::put_byte(out, 8, 1);
     slices::put(out, 10, b'\n');
     for j in 0..gates {
-        put_gate(out, 11 + 7 * j, inputs - 1 + j);
+        put_gate(out, 11 + 7 * j, (inputs - 1 + j) as u16);
     }
     let end = 11 + 7 * gates;
-    lines::write::put_byte(out, end, Kind::Output as u8);
-    put_word(out, end + 2, inputs + gates - 1);
+    write::put_byte(out, end, Kind::Output as u8);
+    write::put_word(out, end + 2, (inputs + gates - 1) as u16);
     slices::put(out, end + 6, b'\n');
     end + 7
 }

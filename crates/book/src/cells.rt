@@ -5,6 +5,7 @@ ghost use Rattle.lines.specs.Line.{byte_at, bytes_from};
 
 use instruction::Instruction;
 
+// They stand in any text, as far as it goes; crate row has those of a good line.
 #[derive(Clone, Copy)]
 pub(crate) struct Cells<'a> {
     pub text: &'a [u8],

@@ -13,7 +13,6 @@ pub(crate) fn cycles(out: &mut [u8], n: usize)
     ensures { out.new ≡ sets out.old 0 (cycles_line n) }
 {
     write::put_byte(out, 0, Kind::Cycles as u8);
-    write::put_byte(out, 2, (n / 256) as u8);
-    write::put_byte(out, 4, (n % 256) as u8);
+    write::put_word(out, 2, n as u16);
     slices::put(out, 6, b'\n');
 }

@@ -77,6 +77,7 @@ pub fn piece_at(text: &[u8], at: usize) -> Piece
 pub fn count(text: &[u8]) -> usize
     ensures { result ≡ frames_in text.now }
 {
+    // The reader gives the empty part and stays, so it is no iterator.
     let mut r = Frames::new(text);
     let mut n = 0;
     while !r.next().is_empty() {

@@ -7,7 +7,7 @@ ghost use Rattle.index.specs.Chains.{digit_at, key_of, remainder_of, chained, fo
 
 use slices::at;
 
-// The first link for each remainder, and the link after each place.
+// The first link for each remainder, and the link after each place; whoever asks lends the keys, of any number.
 #[derive(Clone, Copy)]
 pub struct Chains {
     pub heads: [u16; 1024],

@@ -7,7 +7,7 @@ ghost use Rattle.instruction.specs.Line.{instruction_at, idle_at};
 
 use lines::kind::Kind;
 
-// A set line or else a NOR line, where its first cell's digits stand, how many cells it names, and where the next line begins.
+// A set line or else a NOR line, two kinds that are asked once; where its first cell's digits stand, how many cells it names, and where the next line begins.
 #[derive(Clone, Copy)]
 pub struct Instruction {
     pub set: bool,
@@ -21,11 +21,12 @@ fn count(text: &[u8], first: usize) -> usize
     requires { first ≤ length text.now + 1 }
     ensures { (result ≡ length (cells_from text.now first)) × (first + 2 * result ≤ length text.now + 1) }
 {
-    let mut k = 0;
-    while row::cell_at(text, first + 2 * k).is_some() {
-        k += 1;
+    for k in 0..text.len() {
+        if row::cell_at(text, first + 2 * k).is_none() {
+            return k;
+        }
     }
-    k
+    text.len()
 }
 
 // A line that names no cell does nothing.

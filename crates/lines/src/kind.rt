@@ -1,4 +1,4 @@
-// Document 01's table of kinds: what a line is, by its first byte.
+// Document 01's table of kinds: what a line is, by its first byte. A line's byte is compared with the variant that is due, as the rules do.
 #[derive(Clone, Copy, Debug, PartialEq, Eq, Hash)]
 pub enum Kind {
     Netlist = 0x01,

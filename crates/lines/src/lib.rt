@@ -1,4 +1,4 @@
-// Texts: hexadecimal lines read at a place of a slice. Every function takes any slice and any place.
+// Texts: hexadecimal lines read at a place of a slice. Every function takes any slice and any place; crate frames holds both in one struct.
 #![tactic(auto)]
 
 ghost use Rattle.std.specs.Prelude.{◌≡◌, ◌+◌, drop};

@@ -1,5 +1,5 @@
 // Texts written into a lent buffer. What falls past the buffer's end is not written, so every call takes any buffer and any place.
-ghost use Rattle.std.specs.Prelude.{◌≡◌, ◌/◌, ◌%◌, [], ◌∷◌};
+ghost use Rattle.std.specs.Prelude.{◌≡◌, ◌+◌, ◌/◌, ◌%◌, [], ◌∷◌};
 ghost use Rattle.std.proofs.lemmas.List.Edits.{sets};
 ghost use Rattle.rules.specs.Refusals.{number_of};
 ghost use Rattle.rules.specs.Lines.{digit_of};
@@ -26,6 +26,16 @@ pub fn put_byte(out: &mut [u8], at: usize, b: u8)
     if at < out.len() {
         slices::put(out, at, digit(b / 16));
         slices::put(out, at + 1, digit(b));
+    }
+}
+
+// A two-byte number at a place, high byte first.
+pub fn put_word(out: &mut [u8], at: usize, n: u16)
+    ensures { out.new ≡ sets (sets out.old at (digit_of (n / 256 / 16) ∷ digit_of (n / 256 % 16) ∷ [])) (at + 2) (digit_of (n % 256 / 16) ∷ digit_of (n % 256 % 16) ∷ []) }
+{
+    if at < out.len() {
+        put_byte(out, at, (n / 256) as u8);
+        put_byte(out, at + 2, (n % 256) as u8);
     }
 }
 

@@ -56,7 +56,7 @@ module _ (n : Netlist) (row : ℕ) {plan : Plan} (d : Due n row plan) where
       steps = rw plan_order (order_steps n (flat_fits n (well_flat n d.well)));
       wanted = rw s.left_is plan_wanted;
       first = f ∙ ap (first_cells n.inputs) (sym row_is);
-      seated = record { inputs_in = s.inputs_in; others = s.others; left_is = refl; wide = s.wide };
+      seated = record { inputs_are = s.inputs_are; inputs_in = s.inputs_in; others = s.others; left_is = refl; wide = s.wide };
       empty = e;
     }
 

@@ -61,13 +61,14 @@ gate_few n w g h = omega (arith, length_from n.ops (4 * g) (get_or n.counts g 0)
 
 -- ---- a gate of the order in the cell that was found
 
-module _ (n : Netlist) (well : WellFlat n) {row i : ℕ} {S : State} {st : Cells} {g : Signals} {text : List ℕ} (w : Roomy n row i S st g.table g.left text) (s : ℕ)
+module _ (n : Netlist) (well : WellFlat n) {row i : ℕ} {S : State} {st : Cells} (g : Signals) {text : List ℕ} (w : Roomy n row i S st g.table g.left text) (s : ℕ)
     (gate : n.inputs ≤ s) (known : s < n.inputs + n.gates) (fresh : mem s S.done ≡ false) where
   fresh' : mem s w.S'.done ≡ false
   fresh' = rw w.done fresh
 
-  pub gate_placeable : i ≤ 576 → Placeable n s st g text
-  gate_placeable h = record {
+  pub gate_placeable : g.inputs ≡ n.inputs → i ≤ 576 → Placeable n s st g text
+  gate_placeable e h = record {
+    inputs = e;
     gate = gate;
     known = omega (arith, well.gates_most);
     few = well.few (s - n.inputs) (omega arith);

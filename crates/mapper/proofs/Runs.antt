@@ -36,6 +36,7 @@ use Rattle.mapper.proofs.Gatewise.{gate_placeable, gate_mirrors, gate_text, gate
 
 pub record Running (n : Netlist) (row : ℕ) (gs : List ℕ) (st : Cells) (g : Signals) (text : List ℕ) (i : ℕ) : Type 0 where
   pub S : State
+  pub inputs : g.inputs ≡ n.inputs
   pub inside : i ≤ length gs
   pub mirrors : Mirrors n row S st g.table g.left
   pub bounded : Bounded S i
@@ -86,6 +87,7 @@ module _ {n : Netlist} {row : ℕ} {gs : List ℕ} {st₀ : Cells} {g₀ : Signa
       let d : Renewed (first_cells n.inputs row) [] text u = rw (p.first, p.empty) at d₀ in
       record {
         S = opened n row;
+        inputs = p.seated.inputs_are;
         inside = omega arith;
         mirrors = record {
           rows = d.row;
@@ -144,18 +146,19 @@ module _ {n : Netlist} {row : ℕ} {gs : List ℕ} {st₀ : Cells} {g₀ : Signa
         roomy = room_found w.mirrors w.bounded w.text_is d
 
         pub run_placeable : Placeable n s r g text'
-        run_placeable = gate_placeable n p.well roomy s gate known fresh most
+        run_placeable = gate_placeable n p.well g roomy s gate known fresh w.inputs most
 
         pub run_turn : {st' : Cells} {g' : Signals} {text'' : List ℕ} → Placed n s r g text' st' g' text'' → Running n row gs st' g' text'' (i + 1)
         run_turn x = record {
           S = place (netlist_in n) s r.next roomy.S';
+          inputs = x.inputs;
           inside = omega (arith, here);
-          mirrors = gate_mirrors n p.well roomy s gate known fresh x (omega (arith, known, w.wide, p.well.inputs_most, p.well.gates_most));
-          bounded = gate_bounded n p.well roomy s gate known fresh x;
+          mirrors = gate_mirrors n p.well g roomy s gate known fresh x (omega (arith, known, w.wide, p.well.inputs_most, p.well.gates_most));
+          bounded = gate_bounded n p.well g roomy s gate known fresh x;
           done = placed_done (netlist_in n) s r.next roomy.S' ∙ rw (roomy.done, w.done, add-one i) (sym (take-suc gs i 0 here ∙ rw at_gate));
-          text_is = gate_text n p.well roomy s gate known fresh x;
+          text_is = gate_text n p.well g roomy s gate known fresh x;
           work = goes_on (place (netlist_in n) s r.next roomy.S') (roomy.step s);
-          wide = gate_wide n p.well roomy s gate known fresh x ∙ w.wide;
+          wide = gate_wide n p.well g roomy s gate known fresh x ∙ w.wide;
         }
 
     -- ---- the end

@@ -66,7 +66,7 @@ place_end table os text whole i h w = sym (append-nil text) ∙ rw (drop_of_leng
 
 -- ---- the head
 
-pub head_put : (a : List ℕ) {b c d e f g h : List ℕ} (row inputs outputs high low : ℕ) → b ≡ sets a 0 (digits 0x11) → c ≡ sets b 2 (digits row) → d ≡ sets c 4 (digits inputs) → e ≡ sets d 6 (digits outputs)
-    → f ≡ sets e 8 (digits high) → g ≡ sets f 10 (digits low) → h ≡ set g 12 10 → h ≡ sets a 0 (written (0x11 ∷ row ∷ inputs ∷ outputs ∷ high ∷ low ∷ []))
+pub head_put : (a : List ℕ) {b c d e g h : List ℕ} (row inputs outputs high low : ℕ) → b ≡ sets a 0 (digits 0x11) → c ≡ sets b 2 (digits row) → d ≡ sets c 4 (digits inputs) → e ≡ sets d 6 (digits outputs)
+    → g ≡ sets (sets e 8 (digits high)) 10 (digits low) → h ≡ set g 12 10 → h ≡ sets a 0 (written (0x11 ∷ row ∷ inputs ∷ outputs ∷ high ∷ low ∷ []))
 unfolding written
-head_put a row inputs outputs high low p q r s t u v = v ∙ rw (u, t, s, r, q, p)
+head_put a row inputs outputs high low p q r s u v = v ∙ rw (u, s, r, q, p)

@@ -20,6 +20,7 @@ use Rattle.mapper.specs.Wanted.{Counted, CountedDown, Wanted}
 
 -- input i is in cell i
 pub record Seated (inputs : ℕ) (left : List ℕ) (g : Signals) : Type 0 where
+  pub inputs_are : g.inputs ≡ inputs
   pub inputs_in : (s : ℕ) → s < inputs → get_or g.table s 0 ≡ s
   pub others : (s : ℕ) → inputs ≤ s → get_or g.table s 0 ≡ 0
   pub left_is : g.left ≡ left
@@ -34,19 +35,21 @@ abbrev pub freed : ℕ → List ℕ → List ℕ → List ℕ
 freed inputs os left = keep (is_free inputs left) os
 
 -- their cells are spent
-pub record Released (inputs : ℕ) (os : List ℕ) (g : Signals) (st st' : Cells) : Type 0 where
-  pub held : st'.held ≡ set_all Spent (map (entry g.table) (freed inputs os g.left)) st.held
+pub record Released (os : List ℕ) (g : Signals) (st st' : Cells) : Type 0 where
+  pub held : st'.held ≡ set_all Spent (map (entry g.table) (freed g.inputs os g.left)) st.held
   pub row : st'.row ≡ st.row
   pub next : st'.next ≡ st.next
   pub lines : st'.lines ≡ st.lines
 
 -- they have none any more
-pub record Forgotten (inputs : ℕ) (os : List ℕ) (g g' : Signals) : Type 0 where
-  pub table : g'.table ≡ set_all 0 (freed inputs os g.left) g.table
+pub record Forgotten (os : List ℕ) (g g' : Signals) : Type 0 where
+  pub inputs : g'.inputs ≡ g.inputs
+  pub table : g'.table ≡ set_all 0 (freed g.inputs os g.left) g.table
   pub left : g'.left ≡ g.left
 
 -- what is asked to place a signal in the cell at the cursor
 pub record Placeable (n : Netlist) (s : ℕ) (st : Cells) (g : Signals) (text : List ℕ) : Type 0 where
+  pub inputs : g.inputs ≡ n.inputs
   pub gate : n.inputs ≤ s
   pub known : s - n.inputs < 512
   pub few : get_or n.counts (s - n.inputs) 0 ≤ 4
@@ -56,6 +59,7 @@ pub record Placeable (n : Netlist) (s : ℕ) (st : Cells) (g : Signals) (text : 
   pub lines : st.lines ≤ 60000
 
 pub record Placed (n : Netlist) (s : ℕ) (st : Cells) (g : Signals) (text : List ℕ) (st' : Cells) (g' : Signals) (text' : List ℕ) : Type 0 where
+  pub inputs : g'.inputs ≡ n.inputs
   pub line : text' ≡ text ++ instruction_text form01 (Nor st.next (map (entry g.table) (operands_in n s)))
   pub down : CountedDown (operands_in n s) g.left g'.left
   pub held : st'.held ≡ set_all Spent (map (entry g.table) (freed n.inputs (operands_in n s) g'.left)) (set st.held st.next Keeps)

@@ -86,11 +86,11 @@ impl Cells {
     }
 
     // The cells of those operands that nobody wants are spent.
-    pub(crate) fn release(mut self, inputs: usize, operands: &[u16], signals: &Signals) -> Cells
-        ensures { Released inputs operands.now signals.now self result }
+    pub(crate) fn release(mut self, operands: &[u16], signals: &Signals) -> Cells
+        ensures { Released operands.now signals.now self result }
     {
         for &o in operands {
-            if signals.is_free(inputs, o) {
+            if signals.is_free(o) {
                 let c = at(&signals.table, usize::from(o), 0);
                 self.held[usize::from(c)] = Hold::Spent;
             }

@@ -21,8 +21,8 @@ impl Cells {
         count_down(&mut signals.left, operands);
         self.held[self.next] = Hold::Keeps;
         self.lines += 1;
-        let cells = self.release(n.inputs, operands, signals);
-        signals.forget(n.inputs, operands);
+        let cells = self.release(operands, signals);
+        signals.forget(operands);
         put(&mut signals.table, s, c);
         cells
     }

@@ -17,9 +17,10 @@ pub(crate) fn count_down(left: &mut [u16], operands: &[u16])
     }
 }
 
-// Each signal's cell, 0 where none keeps it, and how many still want each signal: lent, for its size.
+// How many inputs there are, each signal's cell, 0 where none keeps it, and how many still want each signal: lent, for its size.
 #[derive(Drop)]
 pub struct Signals {
+    pub inputs: usize,
     pub table: [u8; 576],
     pub left: [u16; 576],
 }
@@ -34,22 +35,26 @@ impl Signals {
         for i in 0..inputs {
             table[i] = i as u8;
         }
-        Signals { table, left: *left }
+        Signals {
+            inputs,
+            table,
+            left: *left,
+        }
     }
 
     // Whether a signal is a gate that nobody wants.
-    pub(crate) fn is_free(&self, inputs: usize, o: u16) -> bool
-        ensures { result ≡ is_free inputs self.now.left o }
+    pub(crate) fn is_free(&self, o: u16) -> bool
+        ensures { result ≡ is_free self.now.inputs self.now.left o }
     {
-        inputs <= usize::from(o) && at(&self.left, usize::from(o), 0) == 0
+        self.inputs <= usize::from(o) && at(&self.left, usize::from(o), 0) == 0
     }
 
     // Operands that nobody wants have no cell any more.
-    pub(crate) fn forget(&mut self, inputs: usize, operands: &[u16])
-        ensures { Forgotten inputs operands.now self.old self.new }
+    pub(crate) fn forget(&mut self, operands: &[u16])
+        ensures { Forgotten operands.now self.old self.new }
     {
         for &o in operands {
-            if self.is_free(inputs, o) {
+            if self.is_free(o) {
                 put(&mut self.table, usize::from(o), 0);
             }
         }

@@ -6,7 +6,7 @@ ghost use Rattle.rules.specs.Sequence.{Nor, instruction_text, place_text, texts}
 ghost use Rattle.mapper.specs.Text.{digits, entry, head_line};
 
 use lines::kind::Kind;
-use lines::write::put_byte;
+use lines::write::{put_byte, put_word};
 use slices::{at, put};
 use std::marker::Model;
 
@@ -97,7 +97,6 @@ pub(crate) fn put_head(out: &mut [u8], row: usize, inputs: usize, outputs: usize
     put_byte(out, 2, (row - 1) as u8);
     put_byte(out, 4, inputs as u8);
     put_byte(out, 6, outputs as u8);
-    put_byte(out, 8, (lines / 256) as u8);
-    put_byte(out, 10, (lines % 256) as u8);
+    put_word(out, 8, lines as u16);
     put(out, 12, b'\n');
 }

@@ -3,7 +3,7 @@ use Prim.Native.Nat.{ℕ, suc, ◌+◌, ◌-◌, ◌*◌, ◌<◌, ◌≤◌}
 use native.Mathlib.Omega.{arith}
 use native.Mathlib.Numerals.{add-one}
 use native.Mathlib.Decide.{dec_lt}
-use mathlib.Core.Path.{◌≡◌, refl, sym, ap, ◌∙◌}
+use mathlib.Core.Path.{◌≡◌, refl, sym, ap, subst, ◌∙◌}
 use mathlib.Core.List.{List, [], ◌∷◌, ◌++◌}
 use lib.ListN.{get_or, length, take, drop, set}
 use borrow.Rule.Slice.PartMut.{put_mid}
@@ -17,7 +17,7 @@ use Rattle.rules.specs.Lines.{Line, line}
 use Rattle.rules.specs.Netlist.{Part, gate_of, output_of, lines}
 use Rattle.netlist.specs.Flat.{from, gate_in, gates_in}
 use Rattle.netlist.specs.declared.Netlist.{Netlist}
-use Rattle.netlist.specs.Steps.{line_by, part, head_from, gate_line, OperandsFit, output_line, gate_lines, output_lines}
+use Rattle.netlist.specs.Steps.{line_by, part, head_from, gate_line, OperandsFit, Sized, output_line, gate_lines, output_lines}
 use Rattle.netlist.proofs.Arrays.{from_reads, from_snoc, from_agree, gates_agree}
 
 -- one more line, and then the others
@@ -156,8 +156,8 @@ module _ {text : List ℕ} {start : ℕ} {before n : Netlist} {at k : ℕ} (w : 
   outputs_kept : n.outputs ≡ before.outputs
   outputs_kept = ap (λ (x : Netlist). x.outputs) w.kept
 
-  pub outputting_asks : before.inputs ≤ 64 → before.gates ≤ 512 → (n.inputs ≤ 64) × (n.gates ≤ 512)
-  outputting_asks i g = (omega (arith, ap (λ (x : Netlist). x.inputs) w.kept), omega (arith, ap (λ (x : Netlist). x.gates) w.kept))
+  pub outputting_asks : Sized before → Sized n
+  outputting_asks s = subst Sized (sym w.kept) s
 
   next_output : k < n.outputs → lines form01 (λ _. rule) n.outputs 0 [] (drop start text)
       ≡ (line_by rule (drop at text) >>= λ p. lines form01 (λ _. rule) (n.outputs - (k + 1)) (k + 1) (from n.outs 0 k ++ (p.got ∷ [])) p.tail)

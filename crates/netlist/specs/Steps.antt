@@ -59,6 +59,10 @@ OperandsFit text at k = (1 ≤ k) × (k ≤ 4) × (at + 4 * k + 3 ≤ length tex
 
 -- ---- an output
 
+-- a netlist's numbers are within the limits
+abbrev pub Sized : Netlist → Type 0
+Sized n = (n.inputs ≤ 64) × (n.gates ≤ 512) × (n.outputs ≤ 64)
+
 abbrev pub head_from : Netlist → rules.Head
 head_from n = record { inputs = n.inputs; gates = n.gates; outputs = n.outputs }
 

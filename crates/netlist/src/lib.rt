@@ -17,6 +17,7 @@ mod twins;
 mod used;
 
 // A netlist. Operand k of gate g, counted from 0, is ops[4 g + k], of counts[g]; gate g is the signal inputs + g.
+// It has no invariant: it is built before 6 and 7 are asked, and the order and the keys are for any.
 #[derive(Clone, Copy)]
 pub struct Netlist {
     pub inputs: usize,

@@ -1,8 +1,8 @@
 // One line of a netlist at a place: its head, a gate, an output.
 ghost use Rattle.std.specs.Prelude.{◌≡◌, ◌+◌, ◌*◌, ◌≤◌, ltb, leb, ◌&&◌, length, take, IfOk};
-ghost use Rattle.rules.specs.Basics.{within, all, ascending};
+ghost use Rattle.rules.specs.Basics.{within, ascending};
 ghost use Rattle.lines.specs.Line.{words_from};
-ghost use Rattle.netlist.specs.Steps.{part, head_in, head_line, HeadFits, operands_line, OperandsFit, gate_line, output_line};
+ghost use Rattle.netlist.specs.Steps.{part, head_in, head_line, HeadFits, operands_line, OperandsFit, gate_line, Sized, output_line};
 
 use crate::Netlist;
 use lines::kind::Kind;
@@ -78,13 +78,6 @@ fn store(text: &[u8], at: usize, os: &mut [u16])
     }
 }
 
-// Whether a gate's operands are lower than its own signal.
-fn lower(os: &[u16], own: usize) -> bool
-    ensures { result ≡ all (λ o. ltb o own) os.now }
-{
-    os.iter().all(|&o| usize::from(o) < own)
-}
-
 // Whether a gate's operands ascend strictly.
 fn ascend(os: &[u16]) -> bool
     ensures { result ≡ ascending os.now }
@@ -110,7 +103,7 @@ pub(crate) fn read_gate(
     };
     let os = &mut room[..k];
     store(text, at + 2, os);
-    if !lower(os, own) {
+    if !slices::all_below(os, own) {
         return Err(Refusal::WrongSignal);
     }
     if !ascend(os) {
@@ -121,7 +114,7 @@ pub(crate) fn read_gate(
 
 // Whether a signal is a gate.
 fn is_gate(n: &Netlist, s: usize) -> bool
-    requires { (n.now.inputs ≤ 64) × (n.now.gates ≤ 512) }
+    requires { Sized n.now }
     ensures { result ≡ (leb n.now.inputs s && ltb s (n.now.inputs + n.now.gates)) }
 {
     (n.inputs..n.inputs + n.gates).contains(&s)
@@ -130,7 +123,7 @@ fn is_gate(n: &Netlist, s: usize) -> bool
 // An output's line, by the netlist's inputs and gates: its answer is the signal; 1, 2, 4.
 #[tactic(auto, using(crate::proofs::OutputLine::output_rules))]
 pub(crate) fn read_output(text: &[u8], at: usize, n: &Netlist) -> Result<u16, Refusal>
-    requires { (n.now.inputs ≤ 64) × (n.now.gates ≤ 512) }
+    requires { Sized n.now }
     ensures means { part text.now (λ s. s) (λ _. at + 7) result ≡ output_line text.now at n.now }
     ensures fits { IfOk result (λ _. at + 7 ≤ length text.now) }
 {

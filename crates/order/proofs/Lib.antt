@@ -6,6 +6,7 @@ pub mod Counting
 pub mod Readership
 pub mod Bounds
 pub mod Walking
+pub mod Ranked
 pub mod Sorting
 pub mod Weighted
 pub mod Orders

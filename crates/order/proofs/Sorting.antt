@@ -1,74 +1,25 @@
--- Where a signal goes among the others, those behind it one place up, and the loops of the sort and of a weight.
+-- The gates among the first operands, and the sums of a weight.
 -- Assumes nothing.
-use Prim.Native.Nat.{ℕ, suc, ◌+◌, ◌-◌, ◌<◌, ◌≤◌}
+use Prim.Native.Nat.{ℕ, suc, ◌+◌, ◌<◌, ◌≤◌}
 use native.Mathlib.Omega.{arith}
-use native.Mathlib.Decide.{dec_lt}
-use native.Mathlib.Numerals.{add-one, one-add}
+use native.Mathlib.Numerals.{add-one}
 use mathlib.Core.Path.{◌≡◌, refl, sym, ap, ◌∙◌}
-use mathlib.Core.Bool.{Bool, true, false, cond, not}
+use mathlib.Core.Bool.{Bool, true, false}
 use mathlib.Core.List.{List, [], ◌∷◌, ◌++◌}
 use lib.Dec.{leb}
-use borrow.Author.Tests.{lt-ltb, le-ltb, le-leb, lt-leb}
-use lib.ListN.{get_or, length, take, drop, set, length-append, length-drop, drop_of_length-le}
-use lib.Seq.{drop-cons, length-take-le, take-take, take-set-lt, take-suc-set, append_snoc}
-use Rattle.std.specs.List.{position, position_or_len, copy_within}
+use borrow.Author.Tests.{le-leb, lt-leb}
+use lib.ListN.{get_or, length, take}
+use lib.Seq.{length-take-le}
+use Rattle.std.specs.Prelude.{map}
+use Rattle.std.specs.List.{enumerate_from, fold, reduce}
 use Rattle.std.specs.Option.{unwrap_or}
-use Rattle.std.specs.Ordering.{nat_cmp, ord_max}
+use Rattle.std.specs.Ordering.{nat_cmp, max_by_ordering}
 use Rattle.std.proofs.lemmas.Bool.Decides.{nat_tests}
-use Rattle.std.proofs.lemmas.List.{append-nil, drop-take, set-append_left}
-use Rattle.std.proofs.lemmas.List.Edits.{take-paste}
-use Rattle.std.proofs.lemmas.List.Sums.{prefix_len-le-length}
+use Rattle.std.proofs.lemmas.List.{append-nil, take_more, take_all}
 use Rattle.rules.specs.Basics.{pick, keep, larger}
 use Rattle.rules.specs.Weight.{goes_before, insert_by, high_to_low, gate_operands, largest_sum, weight_from}
 
--- ---- the place of a signal, and the list with the signal there
-
-module _ (w : ℕ → ℕ) (x : ℕ) where
-  abbrev place : List ℕ → ℕ
-  place l = position_or_len (goes_before w x) l
-
-  place_least : (l : List ℕ) → place l ≤ length l
-  place_least l = prefix_len-le-length (λ y. not (goes_before w x y)) l
-
-  place_is : (l : List ℕ) (n : ℕ) → length l ≡ n → unwrap_or (position (goes_before w x) l) n ≡ place l
-  place_is l n e = rw (← e) (go (dec_lt (place l) (length l)))
-    where
-      go : Dec (place l < length l) → unwrap_or (position (goes_before w x) l) (length l) ≡ place l
-      go (yes h) = rw (lt-ltb (place l) (length l) h)
-      go (no h) = rw (le-ltb (place l) (length l) (omega (arith, h))) (omega (arith, h, place_least l))
-
-  insert_at : (l : List ℕ) → insert_by w x l ≡ take (place l) l ++ (x ∷ drop (place l) l)
-  unfolding insert_by pick
-  insert_at [] = refl
-  insert_at (y ∷ l) = go (goes_before w x y) (insert_at l)
-    where
-      go : (b : Bool) → insert_by w x l ≡ take (place l) l ++ (x ∷ drop (place l) l)
-          → pick b (x ∷ y ∷ l) (y ∷ insert_by w x l) ≡ take (cond (not b) (1 + place l) 0) (y ∷ l) ++ (x ∷ drop (cond (not b) (1 + place l) 0) (y ∷ l))
-      go true ih = refl
-      go false ih = rw one-add (ap (λ t. y ∷ t) ih)
-
--- the first n numbers of an array, and after those from p on were moved one place up and x was put at p
-moved : (a : List ℕ) (n p x : ℕ) → n < length a → p ≤ n → take (n + 1) (set (copy_within a p n (p + 1)) p x) ≡ take p a ++ (x ∷ take (n - p) (drop p a))
-moved a n p x room h =
-    let e : n + 1 ≡ suc p + (n - p) = omega arith in
-    let l : length (take (suc p) a) ≡ suc p = length-take-le (suc p) a (omega arith) in
-    rw (add-one p, e)
-    (take-set-lt (suc p + (n - p)) _ p x (omega arith)
-    ∙ ap (λ t. set t p x) (take-paste a (suc p) (drop p a) (n - p) (omega arith) (omega (arith, length-drop p a)))
-    ∙ set-append_left (take (suc p) a) (take (n - p) (drop p a)) p x (omega (arith, l))
-    ∙ ap (λ t. t ++ take (n - p) (drop p a)) (sym (take-set-lt (suc p) a p x (omega arith)) ∙ take-suc-set a p x (omega arith))
-    ∙ append_snoc (take p a) x (take (n - p) (drop p a)))
-
-pub inserted : (w : ℕ → ℕ) (x : ℕ) (a : List ℕ) (n p : ℕ) → n < length a → p ≡ unwrap_or (position (goes_before w x) (take n a)) n
-    → take (n + 1) (set (copy_within a p n (p + 1)) p x) ≡ insert_by w x (take n a)
-inserted w x a n p room e =
-    let l : length (take n a) ≡ n = length-take-le n a (omega arith) in
-    let q : p ≡ place w x (take n a) = e ∙ place_is w x (take n a) n l in
-    let h : p ≤ n = omega (arith, q, l, place_least w x (take n a)) in
-    let z : p + (n - p) ≡ n = omega arith in
-    moved a n p x room h ∙ sym (insert_at w x (take n a) ∙ rw (← q, take-take p n a h) (ap (λ t. take p a ++ (x ∷ t)) (rw z at (drop-take p (n - p) a))))
-
--- ---- the sort: the operands behind those that are left are in
+-- ---- the gates among the first operands, sorted
 
 length-insert : (w : ℕ → ℕ) (x : ℕ) (l : List ℕ) → length (insert_by w x l) ≡ suc (length l)
 unfolding insert_by pick
@@ -88,58 +39,74 @@ sorted_few w inputs (x ∷ l) = go (leb inputs x) (sorted_few w inputs l)
     go true h = omega (arith, length-insert w x (high_to_low w (keep (leb inputs) l)))
     go false h = omega arith
 
-pub record Sorting (w : ℕ → ℕ) (inputs : ℕ) (os f left : List ℕ) : Type 0 where
-  pub done : List ℕ
-  pub whole : left ++ done ≡ os
-  pub is : f ≡ high_to_low w (gate_operands inputs done)
+keep_snoc : (p : ℕ → Bool) (l : List ℕ) (x : ℕ) → keep p (l ++ (x ∷ [])) ≡ keep p l ++ pick (p x) (x ∷ []) []
+unfolding keep pick
+keep_snoc p [] x = refl
+keep_snoc p (a ∷ l) x = go (p a) (keep_snoc p l x)
+  where
+    go : (b : Bool) → keep p (l ++ (x ∷ [])) ≡ keep p l ++ pick (p x) (x ∷ []) []
+        → pick b (a ∷ keep p (l ++ (x ∷ []))) (keep p (l ++ (x ∷ []))) ≡ pick b (a ∷ keep p l) (keep p l) ++ pick (p x) (x ∷ []) []
+    go true e = ap (λ t. a ∷ t) e
+    go false e = e
 
-pub sorting_start : (w : ℕ → ℕ) (inputs : ℕ) (os f left : List ℕ) → f ≡ [] → left ≡ os → Sorting w inputs os f left
-unfolding high_to_low gate_operands keep
-sorting_start w inputs os f left e r = record { done = []; whole = append-nil left ∙ r; is = e }
+keep_few : (p : ℕ → Bool) (l : List ℕ) → length (keep p l) ≤ length l
+unfolding keep pick
+keep_few p [] = omega arith
+keep_few p (a ∷ l) = go (p a) (keep_few p l)
+  where
+    go : (b : Bool) → length (keep p l) ≤ length l → length (pick b (a ∷ keep p l) (keep p l)) ≤ suc (length l)
+    go true h = omega arith
+    go false h = omega arith
 
-module _ {w : ℕ → ℕ} {inputs : ℕ} {os f left : List ℕ} (s : Sorting w inputs os f left) (left' : List ℕ) (x : ℕ) (e : left ≡ left' ++ (x ∷ [])) where
-  whole' : left' ++ (x ∷ s.done) ≡ os
-  whole' = sym (append_snoc left' x s.done) ∙ (rw e at s.whole)
+pub record Picking (inputs : ℕ) (os f : List ℕ) (k : ℕ) : Type 0 where
+  pub is : f ≡ gate_operands inputs (take k os)
 
-  pub sorting_room : length os ≤ 4 → length f < 4
-  sorting_room h = rw s.is (omega (arith, sorted_few w inputs s.done, length-append left' (x ∷ s.done), ap length whole'))
+pub picking_start : (inputs : ℕ) (os f : List ℕ) → f ≡ [] → Picking inputs os f 0
+unfolding gate_operands keep
+picking_start inputs os f e = record { is = e }
 
-  pub sorting_gate : inputs ≤ x → Sorting w inputs os (insert_by w x f) left'
-  unfolding high_to_low gate_operands keep pick
-  sorting_gate h = record { done = x ∷ s.done; whole = whole'; is = rw (le-leb inputs x h) (ap (insert_by w x) s.is) }
+module _ {inputs : ℕ} {os f : List ℕ} {k : ℕ} (s : Picking inputs os f k) where
+  pub picking_room : k < length os → length os ≤ 4 → length f < 4
+  unfolding gate_operands
+  picking_room h l = rw s.is (omega (arith, keep_few (leb inputs) (take k os), length-take-le k os (omega arith)))
 
-  pub sorting_input : x < inputs → Sorting w inputs os f left'
-  unfolding high_to_low gate_operands keep pick
-  sorting_input h = record { done = x ∷ s.done; whole = whole'; is = rw (lt-leb inputs x h) s.is }
+  module _ (h : k < length os) where
+    pub picking_gate : inputs ≤ get_or os k 0 → Picking inputs os (f ++ (get_or os k 0 ∷ [])) (k + 1)
+    unfolding gate_operands pick
+    picking_gate g = record { is = rw (take_more os k 0 h, keep_snoc, le-leb inputs (get_or os k 0) g) (ap (λ t. t ++ (get_or os k 0 ∷ [])) s.is) }
 
-pub sorting_end : {w : ℕ → ℕ} {inputs : ℕ} {os f : List ℕ} (left : List ℕ) → Sorting w inputs os f left → length left ≡ 0 → f ≡ high_to_low w (gate_operands inputs os)
-sorting_end [] s e = s.is ∙ rw s.whole
-sorting_end (x ∷ left) s e = absurd (omega arith)
+    pub picking_input : get_or os k 0 < inputs → Picking inputs os f (k + 1)
+    unfolding gate_operands pick
+    picking_input g = record { is = rw (take_more os k 0 h, keep_snoc, lt-leb inputs (get_or os k 0) g) (s.is ∙ sym (append-nil _)) }
 
--- ---- the weight: the largest sum of those from j on, from the largest so far
+  pub picking_end : length os ≤ k → f ≡ gate_operands inputs os
+  picking_end h = s.is ∙ ap (gate_operands inputs) (take_all k os h)
 
-pub larger_max : (a b : ℕ) → ord_max nat_cmp a b ≡ larger a b
+-- ---- the weight: the largest of the sums, or 1 where there are none
+
+abbrev pub bigger : ℕ → ℕ → ℕ
+bigger a b = max_by_ordering (nat_cmp a b) a b
+
+bigger_larger : (a b : ℕ) → bigger a b ≡ larger a b
 unfolding larger pick
-larger_max a b = grind (arith, nat_tests)
+bigger_larger a b = grind (arith, nat_tests)
 
-pub record Peaking (w : ℕ → ℕ) (os : List ℕ) (sofar j : ℕ) : Type 0 where
-  pub same : largest_sum w j sofar (drop j os) ≡ weight_from w os
+larger_none : (a : ℕ) → larger 0 (a + 0) ≡ a + 0
+unfolding larger pick
+larger_none a = grind (arith, nat_tests)
 
-pub peaking_none : (w : ℕ → ℕ) (os : List ℕ) → length os ≡ 0 → 1 ≡ weight_from w os
-unfolding weight_from
-peaking_none w [] e = refl
-peaking_none w (o ∷ os) e = absurd (omega arith)
+module _ (w : ℕ → ℕ) where
+  abbrev pub sums : ℕ → List ℕ → List ℕ
+  sums k os = map (λ p. w p.1 + p.0) (enumerate_from k os)
 
-pub peaking_start : (w : ℕ → ℕ) (os : List ℕ) → (length os ≡ 0 → ⊥) → Peaking w os 0 0
-unfolding weight_from
-peaking_start w [] h = absurd (h refl)
-peaking_start w (o ∷ os) h = record { same = refl }
-
-module _ {w : ℕ → ℕ} {os : List ℕ} {sofar j : ℕ} (p : Peaking w os sofar j) where
-  pub peaking_turn : {v : ℕ} → j < length os → v ≡ larger sofar (w (get_or os j 0) + j) → Peaking w os v (j + 1)
+  sums_fold : (k a : ℕ) (os : List ℕ) → fold bigger a (sums k os) ≡ largest_sum w k a os
   unfolding largest_sum
-  peaking_turn {v} h e = record { same = rw (e, add-one j) (rw (drop-cons os j 0 h) at p.same) }
+  sums_fold k a [] = refl
+  sums_fold k a (o ∷ os) =
+      let b = larger a (w o + k) in
+      ap (λ a. fold bigger a (sums (k + 1) os)) (bigger_larger a (w o + k)) ∙ ap (λ j. fold bigger b (sums j os)) (add-one k) ∙ sums_fold (suc k) b os
 
-  pub peaking_end : length os ≤ j → sofar ≡ weight_from w os
-  unfolding largest_sum
-  peaking_end h = rw (drop_of_length-le os h) at p.same
+  pub largest_is_weight : (os : List ℕ) → unwrap_or (reduce bigger (sums 0 os)) 1 ≡ weight_from w os
+  unfolding weight_from largest_sum
+  largest_is_weight [] = refl
+  largest_is_weight (o ∷ os) = sums_fold 1 (w o + 0) os ∙ ap (λ a. largest_sum w 1 a os) (sym (larger_none (w o)))

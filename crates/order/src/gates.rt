@@ -1,7 +1,6 @@
 // Gates: the gate operands of a signal, in an order.
-ghost use Rattle.std.specs.Prelude.{◌≡◌, ◌<◌, [], length};
-ghost use Rattle.std.specs.List.{position};
-ghost use Rattle.rules.specs.Weight.{goes_before, insert_by, weight_in};
+ghost use Rattle.std.specs.Prelude.{◌≡◌, ◌<◌, ◌++◌, ◌∷◌, [], length};
+ghost use Rattle.rules.specs.Weight.{high_to_low, weight_in};
 
 use slices::at;
 use std::marker::Model;
@@ -29,20 +28,11 @@ pub(crate) fn weight(wts: &[u16], s: u16) -> u16
     at(wts, usize::from(s), 0)
 }
 
-// Whether a goes before b: from high weight to low, equal weights lower number first.
-fn goes_before(wts: &[u16], a: u16, b: u16) -> bool
-    ensures { result ≡ goes_before (weight_in wts.now) a b }
+// From high weight to low, equal weights lower number first.
+fn sort(signals: &mut [u16], wts: &[u16])
+    ensures { signals.new ≡ high_to_low (weight_in wts.now) signals.old }
 {
-    let v = weight(wts, a);
-    let w = weight(wts, b);
-    w < v || (v == w && a < b)
-}
-
-// The place of the first that x goes before.
-fn place_of(signals: &[u16], wts: &[u16], x: u16) -> Option<usize>
-    ensures { result ≡ position (goes_before (weight_in wts.now) x) signals.now }
-{
-    signals.iter().position(|&y| goes_before(wts, x, y))
+    signals.sort_unstable_by(|&a, &b| (weight(wts, b), a).cmp(&(weight(wts, a), b)));
 }
 
 impl Gates {
@@ -59,15 +49,19 @@ impl Gates {
         &self.a[..end]
     }
 
-    // x in its place; behind all where it goes before none.
-    pub(crate) fn insert(&mut self, wts: &[u16], x: u16)
+    // x behind the others.
+    pub(crate) fn push(&mut self, x: u16)
         requires { length self.old < 4 }
-        ensures { self.new ≡ insert_by (weight_in wts.now) x self.old }
+        ensures { self.new ≡ self.old ++ (x ∷ []) }
     {
-        let n = usize::from(self.n);
-        let p = place_of(self.signals(), wts, x).unwrap_or(n);
-        self.a.copy_within(p..n, p + 1);
-        self.a[p] = x;
+        self.a[usize::from(self.n)] = x;
         self.n += 1;
+    }
+
+    pub(crate) fn sort(&mut self, wts: &[u16])
+        ensures { self.new ≡ high_to_low (weight_in wts.now) self.old }
+    {
+        let end = usize::from(self.n);
+        sort(&mut self.a[..end], wts);
     }
 }

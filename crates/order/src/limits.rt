@@ -5,13 +5,7 @@ ghost use Rattle.rules.specs.Basics.{all};
 ghost use Rattle.order.specs.Plan.{gate_fits, is_flat, Fits};
 
 use netlist::Netlist;
-
-// Whether all numbers are lower than a limit.
-fn all_below(list: &[u16], limit: usize) -> bool
-    ensures { result ≡ all (λ o. ltb o limit) list.now }
-{
-    list.iter().all(|&o| usize::from(o) < limit)
-}
+use slices::all_below;
 
 // Whether gate g has at most four operands, all lower than the gate's own number.
 #[tactic(auto, unfolding(crate::specs::Plan::gate_fits))]

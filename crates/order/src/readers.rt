@@ -6,7 +6,7 @@ ghost use Rattle.order.specs.Wanted.{Placed, CountedUp, Readers};
 
 use netlist::Netlist;
 
-// Each signal of a list is wanted once more.
+// Each signal of a list is wanted once more. The mapper counts down: one statement too, of the opposite facts.
 pub(crate) fn count_up(list: &[u16], left: &mut [u16; 576])
     requires few { length list.now ≤ 64 }
     requires light { Light left.old 4000 }

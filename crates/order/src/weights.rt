@@ -7,17 +7,18 @@ ghost use Rattle.order.specs.Tables.{Visits};
 use crate::gates::{Gates, weight};
 use netlist::Netlist;
 
-// The gates among at most four operands, from high weight to low; the last operand goes in first.
+// The gates among at most four operands, from high weight to low.
 fn sorted(operands: &[u16], wts: &[u16], inputs: usize) -> Gates
     requires { length operands.now ≤ 4 }
     ensures { result ≡ high_to_low (weight_in wts.now) (gate_operands inputs operands.now) }
 {
     let mut f = Gates::none();
-    for &x in operands.iter().rev() {
+    for &x in operands {
         if inputs <= usize::from(x) {
-            f.insert(wts, x);
+            f.push(x);
         }
     }
+    f.sort(wts);
     f
 }
 
@@ -25,14 +26,12 @@ fn sorted(operands: &[u16], wts: &[u16], inputs: usize) -> Gates
 fn weight_of(signals: &[u16], wts: &[u16]) -> usize
     ensures { result ≡ weight_from (weight_in wts.now) signals.now }
 {
-    if signals.is_empty() {
-        return 1;
-    }
-    let mut w = 0;
-    for (j, &s) in signals.iter().enumerate() {
-        w = w.max(usize::from(weight(wts, s)) + j);
-    }
-    w
+    signals
+        .iter()
+        .enumerate()
+        .map(|(j, &s)| usize::from(weight(wts, s)) + j)
+        .max()
+        .unwrap_or(1)
 }
 
 // Every gate weighed, lowest number first; the answer is each signal's gate operands in the order of visiting.

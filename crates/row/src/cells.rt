@@ -6,6 +6,7 @@ ghost use Rattle.lines.specs.Line.{bytes_from};
 
 use std::marker::Model;
 
+// These are a good line's, so that two are the same by their digits; crate book has cells of any text.
 #[derive(Drop)]
 pub(crate) struct Cells<'a> {
     pub text: &'a [u8],

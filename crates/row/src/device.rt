@@ -14,6 +14,8 @@ struct Operands {
     end: usize,
 }
 
+// A line's cells are asked one by one up to its end: counted first, and taken as a slice, they cost a run more time.
+
 // Set puts 1 in each cell named from a place on. The answer is where they end.
 #[tactic(auto, using(crate::proofs::Decoding::cell_within))]
 fn set_cells(text: &[u8], first: usize, row: &mut [u8]) -> usize

@@ -1,7 +1,7 @@
 // Entries of lent slices: another value past the end, and a write past the end changes nothing. So every call takes any slice and any place.
 #![tactic(auto)]
 
-ghost use Rattle.std.specs.Prelude.{◌≡◌, leb, get_or, set, drop};
+ghost use Rattle.std.specs.Prelude.{◌≡◌, ltb, leb, get_or, set, drop};
 ghost use Rattle.rules.specs.Basics.{all};
 ghost use Rattle.rules.specs.Values.{are_bits};
 
@@ -40,4 +40,11 @@ pub fn are_bits(s: &[u8], n: usize) -> bool
     ensures { result ≡ are_bits n s.now }
 {
     s.len() == n && all_bits(s)
+}
+
+// Whether all entries are below a limit.
+pub fn all_below(list: &[u16], limit: usize) -> bool
+    ensures { result ≡ all (λ o. ltb o limit) list.now }
+{
+    list.iter().all(|&o| usize::from(o) < limit)
 }

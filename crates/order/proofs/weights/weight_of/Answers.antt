@@ -1,16 +1,13 @@
-use mathlib.Core.Path.{sym, ◌∙◌}
-use borrow.Author.Tests.{eqb-true, eqb-false}
-use Rattle.order.proofs.Sorting.{larger_max, peaking_none, peaking_start, peaking_turn, peaking_end}
+use Rattle.std.proofs.Common.{◌+◌, unwrap_or, ap, ◌∙◌, rules}
+use Rattle.std.proofs.lemmas.Iterator.{YieldsList-from_slice, YieldsList-from_map}
+use Rattle.std.proofs.lemmas.Iterator.Consumers.{reduce_from_yields_List, YieldsList-from_enumerate}
+use Rattle.rules.specs.Weight.{weight_in}
+use Rattle.order.proofs.Sorting.{largest_is_weight}
 use Rattle.order.proofs.weights.weight_of.Goals as goal
 
-pub returns-then-is_empty : goal.returns-then-is_empty
-returns-then-is_empty c = peaking_none _ _ (eqb-true _ 0 (sym c.is_empty.ensures ∙ c.if-is_empty.true))
-
-pub loop-j-init : goal.loop-j-init
-loop-j-init c = peaking_start _ _ (eqb-false _ 0 (sym c.is_empty.ensures ∙ c.if-is_empty.false))
-
-pub loop-j-preserved : goal.loop-j-preserved
-loop-j-preserved c = peaking_turn c.loop-j.invariant c.loop-j-test.true (c.max-w.ensures ∙ rw (c.from.ensures, c.weight.ensures) (larger_max _ _))
-
 pub returns : goal.returns
-returns c = peaking_end c.loop-j.invariant c.loop-j-test.false
+returns c =
+    let s = c.args.signals.now in
+    let w = weight_in c.args.wts.now in
+    c.unwrap_or.ensures ∙ ap (λ o. unwrap_or o 1) (reduce_from_yields_List _ c.map.result _ c.max.ensures.ran
+    (YieldsList-from_map _ (λ p. w p.1 + p.0) (YieldsList-from_enumerate (YieldsList-from_slice s cc) cc) c.map.ensures.closure (λ x b q k. search rules))) ∙ largest_is_weight w s
