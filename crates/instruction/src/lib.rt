@@ -7,7 +7,7 @@ ghost use Rattle.instruction.specs.Line.{instruction_at, idle_at};
 
 use lines::kind::Kind;
 
-// A set line or else a NOR line, two kinds that are asked once; where its first cell's digits stand, how many cells it names, and where the next line begins.
+// A set line or else a NOR line, two kinds for which a bool will do; where its first cell's digits stand, how many cells it names, and where the next line begins.
 #[derive(Clone, Copy)]
 pub struct Instruction {
     pub set: bool,
