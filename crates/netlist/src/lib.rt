@@ -1,7 +1,7 @@
 // The netlist reader: a netlist's text into flat arrays.
 #![tactic(auto)]
 
-ghost use Rattle.std.specs.Prelude.{◌≡◌, ◌<◌, ◌≤◌, get_or};
+ghost use Rattle.std.specs.Prelude.{◌≡◌, ◌<◌, ◌≤◌, ◌⊎◌, [], get_or};
 ghost use Rattle.rules.specs.Form.{form01};
 ghost use Rattle.rules.specs.Netlist.{netlist_lines, netlist_of, well_formed};
 ghost use Rattle.rules.specs.Calls.{tail_outcome};
@@ -36,23 +36,29 @@ pub struct Front {
 }
 
 impl Netlist {
-    // The operands of gate g.
+    // The operands of gate g; none where the arrays have no such gate.
     #[tactic(auto, using(crate::proofs::Arrays::range_is), unfolding(crate::specs::Flat::gate_in))]
     pub fn operands(&self, g: usize) -> &[u16]
-        requires { (g < 512) × (get_or self.now.counts g 0 ≤ 4) }
-        ensures { result.now ≡ gate_in self.now.ops self.now.counts g }
+        ensures held { (g < 512) × (get_or self.now.counts g 0 ≤ 4) → result.now ≡ gate_in self.now.ops self.now.counts g }
+        ensures none { (512 ≤ g) ⊎ (4 < get_or self.now.counts g 0) → result.now ≡ [] }
     {
+        if 512 <= g || 4 < self.counts[g] {
+            return &self.ops[..0];
+        }
         let start = 4 * g;
         let end = start + usize::from(self.counts[g]);
         &self.ops[start..end]
     }
 
-    // The outputs, as they stand in the text.
+    // The outputs, as they stand in the text; none where the array does not hold so many.
     #[tactic(auto, using(crate::proofs::Arrays::front_is))]
     pub fn output_list(&self) -> &[u16]
-        requires { self.now.outputs ≤ 64 }
-        ensures { result.now ≡ from self.now.outs 0 self.now.outputs }
+        ensures held { self.now.outputs ≤ 64 → result.now ≡ from self.now.outs 0 self.now.outputs }
+        ensures none { 64 < self.now.outputs → result.now ≡ [] }
     {
+        if 64 < self.outputs {
+            return &self.outs[..0];
+        }
         &self.outs[..self.outputs]
     }
 }

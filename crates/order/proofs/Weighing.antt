@@ -84,6 +84,10 @@ rule_order n s = refl
 
 -- ---- a gate has at most four operands, lower than it is
 
+-- a gate of such a netlist stands in its arrays
+pub gate_held : (n : Netlist) → Fits n → {g : ℕ} → g < n.gates → (g < 512) × (get_or n.counts g 0 ≤ 4)
+gate_held n w {g} h = (omega (arith, w.gates_most, h), w.few g h)
+
 pub few_operands : (n : Netlist) → Fits n → (g : ℕ) → g < n.gates → length (gate_in n.ops n.counts g) ≤ 4
 few_operands n w g h = omega (arith, length-gate n.ops n.counts g, w.few g h)
 

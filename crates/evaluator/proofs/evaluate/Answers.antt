@@ -23,8 +23,5 @@ copy_in-requires c =
 pub work_out-requires : goal.work_out-requires
 work_out-requires c = (read_flat c.args.text.now c.in_ok-n.n c.in_ok-n.ensures, c.copy_in.auto.values)
 
-pub output_list-requires : goal.output_list-requires
-output_list-requires c = (read_flat c.args.text.now c.in_ok-n.n c.in_ok-n.ensures).outputs_most
-
 pub returns : goal.returns
-returns c = handed _ _ _ _ c.in_ok-n.ensures (sym c.are_bits.ensures ∙ c.if-not-are_bits.false) _ _ _ _ _ c.copy_in.ensures c.work_out.ensures c.output_list.ensures c.hand_out.ensures c.if-out-n.false
+returns c = handed _ _ _ _ c.in_ok-n.ensures (sym c.are_bits.ensures ∙ c.if-not-are_bits.false) _ _ _ _ _ c.copy_in.ensures c.work_out.ensures (c.output_list.ensures.held (read_flat c.args.text.now c.in_ok-n.n c.in_ok-n.ensures).outputs_most) c.hand_out.ensures c.if-out-n.false

@@ -23,8 +23,8 @@ unfolding RunOf
 places-requires-clause-room c = let m = c.in_ok-cells.ensures in omega (arith, m.short)
 
 pub places-requires-clause-few : goal.places-requires-clause-few
-places-requires-clause-few c = omega (arith, ap length c.output_list.ensures, length_from c.args.n.now.outs 0 c.args.n.now.outputs, c.requires.0.well.outputs_most)
+places-requires-clause-few c = omega (arith, ap length (c.output_list.ensures.held c.requires.0.well.outputs_most), length_from c.args.n.now.outs 0 c.args.n.now.outputs, c.requires.0.well.outputs_most)
 
 pub returns : goal.returns
 unfolding BodyOf RunOf
-returns c = body_some c.args.n.now c.args.row c.requires.0 c.first.ensures c.in_ok-cells.ensures (rw c.output_list.ensures at c.places.ensures)
+returns c = body_some c.args.n.now c.args.row c.requires.0 c.first.ensures c.in_ok-cells.ensures (rw (c.output_list.ensures.held c.requires.0.well.outputs_most) at c.places.ensures)

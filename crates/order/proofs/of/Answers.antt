@@ -16,9 +16,9 @@ pub count_up-requires : goal.count_up-requires
 count_up-requires c = let n = c.args.n.now in
     let w = c.fits.ensures.facts c.if-not-fits.false in
     let l : length c.count_readers-left.result ≡ 576 = search rules in
-    rw c.output_list-outputs.ensures (record { few = omega (arith, length_from n.outs 0 n.outputs, w.outputs_most); light = c.count_readers-left.ensures.light; placed = outputs_placed n w l })
+    rw (c.output_list-outputs.ensures.held w.outputs_most) (record { few = omega (arith, length_from n.outs 0 n.outputs, w.outputs_most); light = c.count_readers-left.ensures.light; placed = outputs_placed n w l })
 
 pub returns : goal.returns
 returns c = let n = c.args.n.now in
     plan_some n (sym c.fits.ensures.flat ∙ c.if-not-fits.false) (c.visit_roots.ensures ∙ rw c.new-order.ensures (in_order n c.weigh_all-rows.ensures c.count_readers-left.ensures.readers))
-    c.parts-count.ensures c.count_readers-left.ensures.readers (rw c.output_list-outputs.ensures at c.count_up.ensures)
+    c.parts-count.ensures c.count_readers-left.ensures.readers (rw (c.output_list-outputs.ensures.held (c.fits.ensures.facts c.if-not-fits.false).outputs_most) at c.count_up.ensures)

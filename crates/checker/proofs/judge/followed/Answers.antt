@@ -10,16 +10,13 @@ returns-in_err-worked c =
     let e : c.from_residual.result ≡ Err c.in_err-worked.field-0.0 = search rules in
     rw e (follow_refused _ _ _ c.requires _ c.of-gates.ensures _ _ _ c.first-book.ensures c.worked.ensures _ c.in_err-worked.was)
 
-pub output_list-requires : goal.output_list-requires
-output_list-requires c = outputs_few _ _ _ c.requires
-
 pub hold-requires : goal.hold-requires
-hold-requires c = listed_few _ _ _ c.requires _ c.output_list.ensures
+hold-requires c = listed_few _ _ _ c.requires _ (c.output_list.ensures.held (outputs_few _ _ _ c.requires))
 
 pub returns-then-not-hold : goal.returns-then-not-hold
 returns-then-not-hold c =
-    follow_misplaced _ _ _ c.requires _ c.of-gates.ensures _ _ _ c.first-book.ensures c.worked.ensures c.in_ok-worked.was _ c.output_list.ensures _ c.hold.ensures c.if-not-hold.true
+    follow_misplaced _ _ _ c.requires _ c.of-gates.ensures _ _ _ c.first-book.ensures c.worked.ensures c.in_ok-worked.was _ (c.output_list.ensures.held (outputs_few _ _ _ c.requires)) _ c.hold.ensures c.if-not-hold.true
 
 pub returns : goal.returns
 returns c =
-    follow_passed _ _ _ c.requires _ c.of-gates.ensures _ _ _ c.first-book.ensures c.worked.ensures c.in_ok-worked.was _ c.output_list.ensures _ c.hold.ensures c.if-not-hold.false
+    follow_passed _ _ _ c.requires _ c.of-gates.ensures _ _ _ c.first-book.ensures c.worked.ensures c.in_ok-worked.was _ (c.output_list.ensures.held (outputs_few _ _ _ c.requires)) _ c.hold.ensures c.if-not-hold.false

@@ -7,8 +7,8 @@ unfolding netlist_in any_twins
 returns-then-twin_gates c = rw (← c.if-twin_gates.ensures) c.if-twin_gates.true
 
 pub repeats-requires : goal.repeats-requires
-repeats-requires c = outputs_low _ c.requires _ c.output_list.ensures
+repeats-requires c = outputs_low _ c.requires _ (c.output_list.ensures.held c.requires.outputs_most)
 
 pub returns-else-twin_gates : goal.returns-else-twin_gates
 unfolding netlist_in any_twins
-returns-else-twin_gates c = rw (← c.if-twin_gates.ensures, ← c.output_list.ensures) c.repeats.ensures
+returns-else-twin_gates c = rw (← c.if-twin_gates.ensures, ← c.output_list.ensures.held c.requires.outputs_most) c.repeats.ensures
