@@ -13,3 +13,4 @@ pub mod Keyed
 pub mod Alike
 pub mod Entry
 pub mod Finding
+pub mod Ranks

@@ -10,7 +10,7 @@ use Rattle.rules.proofs.Laws.{cons_cases, cons_self, cons_more}
 
 -- ---- members of the lists that are sorted
 
-pub mem-insert : (w : ℕ → ℕ) (o a : ℕ) (l : List ℕ) → mem o (insert_by w a l) ≡ true → mem o (a ∷ l) ≡ true
+mem-insert : (w : ℕ → ℕ) (o a : ℕ) (l : List ℕ) → mem o (insert_by w a l) ≡ true → mem o (a ∷ l) ≡ true
 unfolding insert_by pick
 mem-insert w o a [] e = e
 mem-insert w o a (b ∷ l) e = go (goes_before w a b) (mem-insert w o a l) e

@@ -1,116 +1,78 @@
 -- What the library's sort leaves is document 01's order.
 -- Assumes nothing.
-use Rattle.std.proofs.Common.{ℕ, suc, ◌+◌, ◌<◌, arith, ◌≡◌, refl, sym, ap, ◌∙◌, Bool, true, false, cond, List, [], ◌∷◌, get_or, length}
+use Rattle.std.proofs.Common.{ℕ, suc, ◌<◌, arith, ◌≡◌, refl, sym, ap, ◌∙◌, Bool, true, false, not, List, [], ◌∷◌, get_or, length}
 use native.Mathlib.Numerals.{add-one}
 use Rattle.std.specs.Cmp.{IsStrictWeakOrder}
-use Rattle.std.specs.List.{sum_by}
 use Rattle.std.specs.List.Sorted.{IsPermutation, IsSortedBy}
 use Rattle.std.proofs.lemmas.Bool.Decides.{nat_tests}
-use Rattle.std.proofs.lemmas.List.Sums.{sum_by-cons}
 use Rattle.std.proofs.lemmas.List.Sorted.{sum_by-IsPermutation}
-use Rattle.rules.specs.Basics.{pick, mem}
+use Rattle.rules.specs.Basics.{mem}
 use Rattle.rules.specs.Weight.{goes_before, insert_by, high_to_low}
-use Rattle.rules.proofs.Laws.{cons_cases, cons_more, cons_self}
-use Rattle.order.proofs.Members.{mem-insert}
-
-clash : {A : Type 0} → true ≡ false → A
-clash e = absurd cc
+use Rattle.rules.proofs.Laws.{cons_cases}
+use Rattle.netlist.proofs.Ranks as ranks
 
 module _ (w : ℕ → ℕ) where
+  -- b does not go before a
+  ahead : ℕ → ℕ → Bool
+  ahead a b = not (goes_before w b a)
+
   one_way : (x y : ℕ) → goes_before w x y ≡ true → goes_before w y x ≡ false
   one_way x y h = grind (arith, nat_tests, h)
 
   chain : (x y z : ℕ) → goes_before w x y ≡ false → goes_before w y z ≡ false → goes_before w x z ≡ false
   chain x y z a b = grind (arith, nat_tests, a, b)
 
-  not_itself : (x : ℕ) → goes_before w x x ≡ false
-  not_itself x = grind (arith, nat_tests)
+  pub before_order : IsStrictWeakOrder (goes_before w)
+  before_order = record { one_way = one_way; chain = chain }
+
+  held : (x y : ℕ) → ahead x y ≡ true → goes_before w y x ≡ false
+  unfolding ahead
+  held x y e = go (goes_before w y x) e
+    where
+      go : (t : Bool) → not t ≡ true → t ≡ false
+      go true f = absurd cc
+      go false f = refl
+
+  given : (x y : ℕ) → goes_before w y x ≡ false → ahead x y ≡ true
+  unfolding ahead
+  given x y e = ap not e
 
   one_place : (x y : ℕ) → goes_before w x y ≡ false → goes_before w y x ≡ false → x ≡ y
   one_place x y a b = grind (arith, nat_tests, a, b)
 
-  pub before_order : IsStrictWeakOrder (goes_before w)
-  before_order = record { one_way = one_way; chain = chain }
+  goes : (x y : ℕ) → goes_before w x y ≡ true → ahead x y ≡ true
+  goes x y e = given x y (one_way x y e)
 
-  -- none goes before one that stands ahead of it
-  Falls : List ℕ → Type 0
-  Falls [] = Unit {0}
-  Falls (a ∷ l) = ((x : ℕ) → mem x l ≡ true → goes_before w x a ≡ false) × Falls l
+  stays : (x y : ℕ) → goes_before w x y ≡ false → ahead y x ≡ true
+  stays x y e = given y x e
 
-  falls_from : (l : List ℕ) → ((k : ℕ) → suc k < length l → goes_before w (get_or l (suc k) 0) (get_or l k 0) ≡ false) → Falls l
-  unfolding Falls mem
-  falls_from [] h = tt
-  falls_from (a ∷ []) h = ((λ x m. absurd cc), tt)
-  falls_from (a ∷ b ∷ l) h =
-      let r = falls_from (b ∷ l) (λ k u. h (suc k) (omega arith)) in
-      let t = h 0 (omega arith) in
-      ((λ x m. cons_cases (goes_before w x a ≡ false) x b l m (λ p. rw p t) (λ p. chain x b a (r.0 x p) t)), r)
+  follows : (x y z : ℕ) → ahead x y ≡ true → ahead y z ≡ true → ahead x z ≡ true
+  follows x y z a b = given x z (chain z y x (held y z b) (held x y a))
 
-  falls_insert : (a : ℕ) (l : List ℕ) → Falls l → Falls (insert_by w a l)
-  unfolding Falls insert_by pick mem
-  falls_insert a [] h = ((λ x m. absurd cc), tt)
-  falls_insert a (b ∷ l) h = go (goes_before w a b) refl (falls_insert a l h.1)
-    where
-      go : (t : Bool) → goes_before w a b ≡ t → Falls (insert_by w a l) → Falls (pick t (a ∷ b ∷ l) (b ∷ insert_by w a l))
-      go true e r = let u = one_way a b e in ((λ x m. cons_cases (goes_before w x a ≡ false) x b l m (λ p. rw p u) (λ p. chain x b a (h.0 x p) u)), h)
-      go false e r = ((λ x m. cons_cases (goes_before w x b ≡ false) x a l (mem-insert w x a l m) (λ p. rw p e) (λ p. h.0 x p)), r)
+  same_place : (x y : ℕ) → ahead x y ≡ true → ahead y x ≡ true → x ≡ y
+  same_place x y a b = one_place x y (held y x b) (held x y a)
 
-  falls_sorted : (l : List ℕ) → Falls (high_to_low w l)
-  unfolding high_to_low Falls
-  falls_sorted [] = tt
-  falls_sorted (a ∷ l) = falls_insert a (high_to_low w l) (falls_sorted l)
+  inserted_is : (a : ℕ) (l : List ℕ) → ranks.inserted (goes_before w) ahead goes stays follows same_place a l ≡ insert_by w a l
+  unfolding ranks.inserted insert_by
+  inserted_is a [] = refl
+  inserted_is a (b ∷ l) = rw (inserted_is a l)
 
-  sum_insert : (f : ℕ → ℕ) (a : ℕ) (l : List ℕ) → sum_by f (insert_by w a l) ≡ f a + sum_by f l
-  unfolding insert_by pick
-  sum_insert f a [] = sum_by-cons f a []
-  sum_insert f a (b ∷ l) = go (goes_before w a b) (sum_insert f a l)
-    where
-      go : (t : Bool) → sum_by f (insert_by w a l) ≡ f a + sum_by f l → sum_by f (pick t (a ∷ b ∷ l) (b ∷ insert_by w a l)) ≡ f a + sum_by f (b ∷ l)
-      go true r = sum_by-cons f a (b ∷ l)
-      go false r = omega (arith, r, sum_by-cons f b (insert_by w a l), sum_by-cons f b l)
+  in_order_is : (l : List ℕ) → ranks.in_order (goes_before w) ahead goes stays follows same_place l ≡ high_to_low w l
+  unfolding ranks.in_order high_to_low
+  in_order_is [] = refl
+  in_order_is (a ∷ l) = rw (in_order_is l, inserted_is a (high_to_low w l))
 
-  sum_sorted : (f : ℕ → ℕ) (l : List ℕ) → sum_by f (high_to_low w l) ≡ sum_by f l
-  unfolding high_to_low
-  sum_sorted f [] = refl
-  sum_sorted f (a ∷ l) = omega (arith, sum_insert f a (high_to_low w l), sum_sorted f l, sum_by-cons f a l)
-
-  -- counts those that a does not go before
-  not_behind : ℕ → ℕ → ℕ
-  not_behind a x = cond (goes_before w a x) 0 1
-
-  all_behind : (a : ℕ) (l : List ℕ) → ((x : ℕ) → mem x l ≡ true → goes_before w a x ≡ true) → sum_by (not_behind a) l ≡ 0
-  unfolding not_behind mem
-  all_behind a [] h = refl
-  all_behind a (b ∷ l) h =
-      let z : not_behind a b ≡ 0 = rw (h b (cons_self b l)) in
-      omega (arith, sum_by-cons (not_behind a) b l, z, all_behind a l (λ x m. h x (cons_more x b l m)))
-
-  first_least : (a b : ℕ) (l m : List ℕ) → Falls (b ∷ m) → sum_by (not_behind a) (a ∷ l) ≡ sum_by (not_behind a) (b ∷ m) → goes_before w a b ≡ false
-  unfolding Falls not_behind
-  first_least a b l m s e = go (goes_before w a b) refl
-    where
-      behind : goes_before w a b ≡ true → (x : ℕ) → mem x m ≡ true → (t : Bool) → goes_before w a x ≡ t → goes_before w a x ≡ true
-      behind u x q true f = f
-      behind u x q false f = clash (sym u ∙ chain a x b f (s.0 x q))
-
-      go : (t : Bool) → goes_before w a b ≡ t → goes_before w a b ≡ false
-      go false u = u
-      go true u =
-          let z : not_behind a a ≡ 1 = rw (not_itself a) in
-          let n = all_behind a (b ∷ m) (λ x q. cons_cases (goes_before w a x ≡ true) x b m q (λ p. rw p u) (λ p. behind u x p (goes_before w a x) refl)) in
-          absurd (omega (arith, e, n, z, sum_by-cons (not_behind a) a l))
-
-  same_lists : (l m : List ℕ) → Falls l → Falls m → ((f : ℕ → ℕ) → sum_by f l ≡ sum_by f m) → l ≡ m
-  unfolding Falls
-  same_lists [] [] r s h = refl
-  same_lists [] (b ∷ m) r s h = absurd (omega (arith, h (λ _. 1), sum_by-cons (λ _. 1) b m))
-  same_lists (a ∷ l) [] r s h = absurd (omega (arith, h (λ _. 1), sum_by-cons (λ _. 1) a l))
-  same_lists (a ∷ l) (b ∷ m) r s h =
-      let e : a ≡ b = one_place a b (first_least a b l m s (h (not_behind a))) (first_least b a m l r (sym (h (not_behind b)))) in
-      let t : l ≡ m = same_lists l m r.1 s.1 (λ f. omega (arith, h f, sum_by-cons f a l, sum_by-cons f b m, ap f e)) in
-      rw (e, t)
+  -- neighbours in order are a list in order
+  ranked : (l : List ℕ) → ((k : ℕ) → suc k < length l → goes_before w (get_or l (suc k) 0) (get_or l k 0) ≡ false) → ranks.Ranked (goes_before w) ahead goes stays follows same_place l
+  unfolding ranks.Ranked mem
+  ranked [] h = tt
+  ranked (a ∷ []) h = ((λ x m. absurd cc), tt)
+  ranked (a ∷ b ∷ l) h =
+      let r = ranked (b ∷ l) (λ k u. h (suc k) (omega arith)) in
+      let t = given a b (h 0 (omega arith)) in
+      ((λ x m. cons_cases (ahead a x ≡ true) x b l m (λ p. rw p t) (λ p. follows a b x t (r.0 x p))), r)
 
   pub sorted_is : (xs ys : List ℕ) → IsPermutation xs ys → IsSortedBy (goes_before w) ys → ys ≡ high_to_low w xs
   sorted_is xs ys p up =
-      same_lists ys (high_to_low w xs) (falls_from ys (λ k u. rw (add-one k) at (up k 0 (omega arith) (omega arith)))) (falls_sorted xs)
-      (λ f. sum_by-IsPermutation f xs ys p ∙ sym (sum_sorted f xs))
+      ranks.ranked_same (goes_before w) ahead goes stays follows same_place xs ys (ranked ys (λ k u. rw (add-one k) at (up k 0 (omega arith) (omega arith))))
+      (λ f. sym (sum_by-IsPermutation f xs ys p)) ∙ in_order_is xs
