@@ -7,13 +7,11 @@ mod reading;
 mod rows;
 mod say;
 
-use std::io;
-
-fn main(rt: HostRuntime) -> io::Result<()> {
-    reading::chains(&rt)?;
-    reading::run(&rt)?;
-    rows::run(&rt)?;
-    mapping::run(&rt)?;
-    mapping::chain(&rt)?;
-    frame::run(&rt)
+fn main() {
+    reading::chains();
+    reading::run();
+    rows::run();
+    mapping::run();
+    mapping::chain();
+    frame::run();
 }

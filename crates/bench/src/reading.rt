@@ -4,7 +4,6 @@ ghost use Rattle.std.specs.Prelude.{◌≡◌, ◌≤◌, length};
 use crate::say;
 use lines::kind::Kind;
 use lines::write;
-use std::io;
 
 // Gate j of a chain reads the gate before it, the first one the last input.
 fn put_gate(out: &mut [u8], at: usize, operand: u16)
@@ -35,47 +34,40 @@ pub(crate) fn put_chain(out: &mut [u8], inputs: usize, gates: usize) -> usize
 }
 
 // Evaluates a text, and shows the answer and the buffer.
-fn evaluated(
-    rt: &impl Print,
-    name: &str,
-    text: &[u8],
-    inputs: &[u8],
-    out: &mut [u8],
-) -> io::Result<()> {
-    say::answer(rt, name, evaluator::evaluate(text, inputs, out))?;
-    say::bytes(rt, out)
+fn evaluated(name: &[u8], text: &[u8], inputs: &[u8], out: &mut [u8]) {
+    say::answer(name, evaluator::evaluate(text, inputs, out));
+    say::bytes(out);
 }
 
-fn one(rt: &impl Print, name: &str, text: &[u8], inputs: &[u8]) -> io::Result<()> {
-    evaluated(rt, name, text, inputs, &mut [9u8; 1])
+fn one(name: &[u8], text: &[u8], inputs: &[u8]) {
+    evaluated(name, text, inputs, &mut [9u8; 1]);
 }
 
 // Reads and evaluates a chain of so many gates.
-fn chain(rt: &impl Print, name: &str, inputs: &[u8], gates: usize) -> io::Result<()>
+fn chain(name: &[u8], inputs: &[u8], gates: usize)
     requires { ((1 ≤ length inputs.now) × (length inputs.now ≤ 100)) × ((1 ≤ gates) × (gates ≤ 600)) }
 {
     let mut text = [0; 8192];
     let n = put_chain(&mut text, inputs.len(), gates);
-    one(rt, name, text.get(..n).unwrap_or_default(), inputs)
+    one(name, text.get(..n).unwrap_or_default(), inputs);
 }
 
-pub fn chains(rt: &impl Print) -> io::Result<()> {
-    chain(rt, "64 inputs", &[0u8; 64], 1)?;
-    chain(rt, "65 inputs", &[0u8; 65], 1)?;
-    chain(rt, "512 gates", &[0u8; 1], 512)?;
-    chain(rt, "513 gates", &[0u8; 1], 513)
+pub fn chains() {
+    chain(b"64 inputs", &[0u8; 64], 1);
+    chain(b"65 inputs", &[0u8; 65], 1);
+    chain(b"512 gates", &[0u8; 1], 512);
+    chain(b"513 gates", &[0u8; 1], 513);
 }
 
-pub fn run(rt: &impl Print) -> io::Result<()> {
+pub fn run() {
     let whole = b"0101000101\n020000\n030001\n";
-    one(rt, "one NOT", whole, &[0u8; 1])?;
-    evaluated(rt, "buffer one byte short", whole, &[0u8; 1], &mut [9u8; 0])?;
-    one(rt, "an input too many", whole, &[0u8; 2])?;
+    one(b"one NOT", whole, &[0u8; 1]);
+    evaluated(b"buffer one byte short", whole, &[0u8; 1], &mut [9u8; 0]);
+    one(b"an input too many", whole, &[0u8; 2]);
     one(
-        rt,
-        "lower-case digit",
+        b"lower-case digit",
         b"0101000101\n020000\n03000a\n",
         &[0u8; 1],
-    )?;
-    one(rt, "an empty text", b"", &[0u8; 1])
+    );
+    one(b"an empty text", b"", &[0u8; 1]);
 }
