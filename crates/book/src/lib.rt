@@ -124,11 +124,13 @@ impl Book {
     ) -> Result<Book, Refusal>
         ensures { Handed self (stepped_of self text.now i (gate_in gate)) result }
     {
-        if i.set {
-            self.set(&Cells::standing(text, i))?;
-            return Ok(self);
-        }
-        self.nor(cell_at(text, i.first), gate)?;
+        // The book is handed back at one place: at two, the compiler clears a book that it then writes whole.
+        let told = if i.set {
+            self.set(&Cells::standing(text, i))
+        } else {
+            self.nor(cell_at(text, i.first), gate)
+        };
+        told?;
         Ok(self)
     }
 
