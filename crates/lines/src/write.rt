@@ -39,11 +39,18 @@ pub fn put_word(out: &mut [u8], at: usize, n: u16)
     }
 }
 
-// The line that the programs print for a refusal, at the front: 1F and the number in one byte.
+// The line that the programs print for a refusal's number, any byte, at the front: 1F and the number.
+pub fn put_number(out: &mut [u8], n: u8)
+    ensures { out.new ≡ sets out.old 0 (refusal_line n) }
+{
+    put_byte(out, 0, Kind::Refusal as u8);
+    put_byte(out, 2, n);
+    slices::put(out, 4, b'\n');
+}
+
+// The line of a refusal.
 pub fn put_refusal(out: &mut [u8], r: Refusal)
     ensures { out.new ≡ sets out.old 0 (refusal_line (number_of r)) }
 {
-    put_byte(out, 0, Kind::Refusal as u8);
-    put_byte(out, 2, r.number());
-    slices::put(out, 4, b'\n');
+    put_number(out, r.number());
 }
