@@ -80,10 +80,8 @@ standing_all text at =
     let z : min i.cells ((length text - i.first) / 2) ≡ i.cells = omega (arith, cells_inside text at) in
     ap (λ n. record { set = i.set; first = i.first; cells = n; next = i.next }) z
 
--- document 01's step, where the gate is the one that the netlist has for the instruction at a place
-pub stepped_means : (N : Netlist) (b : Book) (text : List ℕ) (at : ℕ) (i : Instruction) (gate : Option ℕ) → i ≡ instruction_at text at → b.inputs ≡ N.inputs
-    → gate ≡ gate_for N (instruction_in text i) (book_in b) → stepped_of b text i gate ≡ step N (instruction_in text i) (book_in b)
+-- document 01's step, where the gate is the one that the netlist has for the instruction
+pub stepped_means : (N : Netlist) (b : Book) (text : List ℕ) (i : Instruction) (gate : Option ℕ) → b.inputs ≡ N.inputs
+    → gate ≡ gate_for N (instruction_in text (standing_in text i)) (book_in b) → stepped_of b text i gate ≡ step N (instruction_in text (standing_in text i)) (book_in b)
 unfolding stepped_of book_in
-stepped_means N b text at i gate d n g =
-    let z : standing_in text i ≡ i = ap (standing_in text) d ∙ standing_all text at ∙ sym d in
-    rw (z, n, g) (sym (step_with_lem N (instruction_in text i) (book_in b)))
+stepped_means N b text i gate n g = rw (n, g) (sym (step_with_lem N (instruction_in text (standing_in text i)) (book_in b)))

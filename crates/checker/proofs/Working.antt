@@ -1,5 +1,5 @@
 -- Instruction after instruction: the loop's laws.
-use Rattle.std.proofs.Common.{ℕ, suc, ◌+◌, ◌-◌, ◌*◌, ◌<◌, ◌≤◌, arith, add-one, ◌≡◌, refl, ap, ◌∙◌, List, length, Option, Result, Ok, Err}
+use Rattle.std.proofs.Common.{ℕ, suc, ◌+◌, ◌-◌, ◌*◌, ◌<◌, ◌≤◌, arith, add-one, ◌≡◌, refl, sym, ap, ◌∙◌, List, length, Option, Result, Ok, Err}
 use Rattle.rules.specs.declared.Refusal.{Refusal}
 use Rattle.rules.specs.Refusals.{Res, good, refused, ◌>>=◌, meaning_by}
 use Rattle.netlist.specs.declared.Netlist.{Netlist}
@@ -12,8 +12,8 @@ use Rattle.instruction.specs.Line.{instruction_at, instruction_in, instructions_
 use Rattle.instruction.proofs.Standing.{cells_inside}
 use Rattle.book.specs.declared.Book.{Book}
 use Rattle.book.specs.Cells.{book_in, book_of}
-use Rattle.book.specs.Steps.{gate_in, gate_for, stepped_of, after_of, Stepped}
-use Rattle.book.proofs.Meaning.{stepped_means}
+use Rattle.book.specs.Steps.{gate_in, gate_for, standing_in, stepped_of, after_of, Stepped}
+use Rattle.book.proofs.Meaning.{standing_all, stepped_means}
 
 pub inside : (text : List ℕ) (at : ℕ) (i : Instruction) → i ≡ instruction_at text at → i.first + 2 * i.cells ≤ length text
 inside text at i e = rw e (cells_inside text at)
@@ -45,7 +45,10 @@ module _ (n : Netlist) (text : List ℕ) (code count : ℕ) (first : Book) where
         (found : gate_in gate ≡ gate_for (netlist_in n) (instruction_in text i) (book_in b)) (stepped : Stepped b (stepped_of b text i (gate_in gate)) r after) where
       step_is : meaning_by (λ _. book_in after) r ≡ step (netlist_in n) (instruction_in text (instruction_at text at)) (book_in b)
       unfolding netlist_in
-      step_is = stepped.says ∙ stepped_means (netlist_in n) b text at i (gate_in gate) decoded w.inputs found ∙ ap (λ k. step (netlist_in n) (instruction_in text k) (book_in b)) decoded
+      step_is =
+          let z : standing_in text i ≡ i = ap (standing_in text) decoded ∙ standing_all text at ∙ sym decoded in
+          let f : gate_in gate ≡ gate_for (netlist_in n) (instruction_in text (standing_in text i)) (book_in b) = rw z found in
+          stepped.says ∙ stepped_means (netlist_in n) b text i (gate_in gate) w.inputs f ∙ ap (λ k. step (netlist_in n) (instruction_in text k) (book_in b)) (z ∙ decoded)
 
       next_step : (meaning_by (λ _. book_in after) r >>= steps (netlist_in n) (instructions_at text i.next (count - suc done))) ≡ all
       unfolding steps instructions_at each_line

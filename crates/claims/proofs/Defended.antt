@@ -63,7 +63,7 @@ module _ (netlist sequence : List ℕ) (N : Netlist) (S : Sequence) (n : ℕ) (r
       held : (k : ℕ) → k < length N.outputs
           → get_or (run budget is row) (get_or S.places k 0) 0 ≡ get_or (values N ins) (get_or N.outputs k 0) 0
       held k hk =
-          rw (run_ends budget is row ends) (places_hold N S n row c (netlist_read form01 netlist N readN).0 room places_count long k hk)
+          rw (run_ends budget is row ends) (places_hold N S n row c (λ j b. ((netlist_read form01 netlist N readN).0.lines.gate j b).lower) room places_count long k hk)
 
       in_row_lem : (k : ℕ) → k < length N.outputs → get_or S.places k 0 < length row
       in_row_lem k hk = rw long (r.in_row k 0 (omega (arith, places_count)))

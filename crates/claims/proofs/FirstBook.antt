@@ -1,6 +1,6 @@
 -- The first cells of a row hold the inputs: what stands there, and how long the first book is.
 -- Assumes nothing.
-use Rattle.std.proofs.Common.{ℕ, ◌-◌, ◌<◌, ◌≤◌, arith, ◌≡◌, ◌∙◌, List, ◌++◌, map, get_or, length, length-append}
+use Rattle.std.proofs.Common.{ℕ, ◌+◌, ◌-◌, ◌<◌, ◌≤◌, arith, ◌≡◌, refl, ◌∙◌, List, ◌++◌, map, get_or, length, length-append}
 use lib.ListN.{length-map, length-replicate, get_or-append}
 use lib.Seq.{get_or-append_right}
 use Rattle.std.specs.List.{range_with_len}
@@ -9,10 +9,10 @@ use Rattle.rules.specs.Basics.{upto}
 use Rattle.rules.specs.Book.{first_book}
 use Rattle.rules.proofs.Lists.{upto_range, length-upto}
 
-pub front : {A : Type 0} (f : ℕ → A) (n c : ℕ) (xs : List A) (d : A) → c < n → get_or (map f (upto 0 n) ++ xs) c d ≡ f c
-front f n c xs d h =
-    rw (← upto_range 0 n)
-    (get_or-append (map f (range_with_len 0 n)) xs d c (omega (arith, length-map-range_with_len f 0 n)) ∙ get_or-map-range_with_len f 0 n c c d h (omega arith))
+pub front : {A : Type 0} (f : ℕ → A) (a n c : ℕ) (xs : List A) (d : A) → c < n → get_or (map f (upto a n) ++ xs) c d ≡ f (a + c)
+front f a n c xs d h =
+    rw (← upto_range a n)
+    (get_or-append (map f (range_with_len a n)) xs d c (omega (arith, length-map-range_with_len f a n)) ∙ get_or-map-range_with_len f a n c (a + c) d h refl)
 
 pub behind : {A : Type 0} (f : ℕ → A) (n c : ℕ) (xs : List A) (d : A) → n ≤ c → get_or (map f (upto 0 n) ++ xs) c d ≡ get_or xs (c - n) d
 behind f n c xs d h =

@@ -34,7 +34,7 @@ module _ (N : Netlist) (row opened : ℕ) (room : N.inputs + opened ≤ row) whe
 
   at_input : (c : ℕ) → c < N.inputs → get_or first c blank ≡ keeps c
   unfolding opening work
-  at_input c h = front keeps N.inputs c work blank h
+  at_input c h = let z : 0 + c ≡ c = omega arith in front keeps 0 N.inputs c work blank h ∙ ap keeps z
 
   at_work : (c : ℕ) → N.inputs ≤ c → get_or first c blank ≡ get_or work (c - N.inputs) blank
   unfolding opening work
@@ -76,7 +76,7 @@ module _ (N : Netlist) (row opened : ℕ) (room : N.inputs + opened ≤ row) whe
 
   book_input : (c : ℕ) → c < N.inputs → get_or (first_book N.inputs row) c unknown ≡ holds c
   unfolding first_book
-  book_input c h = front holds N.inputs c (replicate (row - N.inputs) unknown) unknown h
+  book_input c h = let z : 0 + c ≡ c = omega arith in front holds 0 N.inputs c (replicate (row - N.inputs) unknown) unknown h ∙ ap holds z
 
   book_at : (c : ℕ) → c < row → get_or opened_book c unknown ≡ pick (mem c (upto N.inputs opened)) set_ready (get_or (first_book N.inputs row) c unknown)
   unfolding opened_book

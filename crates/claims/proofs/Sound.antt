@@ -11,7 +11,6 @@ use Rattle.rules.specs.Device.{run}
 use Rattle.rules.specs.Book.{Cell, unknown, ready, holds, first_book, gate_with, steps, is_holding, placed, checked}
 use Rattle.rules.proofs.Laws.{bind_good, require_good, gate_with_spec}
 use Rattle.rules.proofs.Lists.{Below, all_default}
-use Rattle.rules.proofs.Reading.{Well}
 use Rattle.claims.proofs.Table.{table_keeps, values_spec}
 use Rattle.claims.proofs.FirstBook.{front, behind, book_size}
 use Rattle.claims.proofs.Fits.{Fits, steps_fit}
@@ -32,13 +31,13 @@ first_fits n gs r h = record { len = book_size n (length r) h; val = λ c s e. v
 
     val : (c : ℕ) → Dec (c < n) → (s : ℕ) → get_or (first_book n (length r)) c unknown ≡ holds s → get_or r c 0 ≡ get_or (table nor (take n r) gs) s 0
     val c (yes q) s e =
-        let p = front holds n c rest unknown q in
+        let y : 0 + c ≡ c = omega arith in let p = front holds 0 n c rest unknown q ∙ ap holds y in
         let z : c ≡ s = cc in
-        rw (← z) (sym (table_keeps (take n r) gs c (simp length-take (omega arith)) ∙ get_or-take n r c 0 q))
+        rw (← z) (sym (table_keeps nor (take n r) gs c (simp length-take (omega arith)) ∙ get_or-take n r c 0 q))
     val c (no q) s e = let p = past c (omega arith) in cc
 
     one : (c : ℕ) → Dec (c < n) → get_or (first_book n (length r)) c unknown ≡ ready → get_or r c 0 ≡ 1
-    one c (yes q) e = let p = front holds n c rest unknown q in cc
+    one c (yes q) e = let y : 0 + c ≡ c = omega arith in let p = front holds 0 n c rest unknown q ∙ ap holds y in cc
     one c (no q) e = let p = past c (omega arith) in cc
 
 -- ---- gates and places
@@ -103,11 +102,11 @@ module _ (N : Netlist) (S : Sequence) (n : ℕ) (r : List ℕ) (c : Checked N S 
       (steps_spare N k (lt-ltb k N.inputs h) S.instructions (first_book N.inputs S.row) c.book c.stepped)
 
   -- each place holds its output's value at the end of the run
-  pub places_hold : Well N → N.inputs ≤ S.row → length S.places ≡ length N.outputs → length r ≡ S.row
+  pub places_hold : ((j : ℕ) → j < length N.gates → Below (N.inputs + j) (get_or N.gates j [])) → N.inputs ≤ S.row → length S.places ≡ length N.outputs → length r ≡ S.row
       → (k : ℕ) → k < length N.outputs
       → get_or (run (length S.instructions) S.instructions r) (get_or S.places k 0) 0 ≡ get_or (values N (take N.inputs r)) (get_or N.outputs k 0) 0
   unfolding values
-  places_hold W h l len =
+  places_hold o h l len =
       placed_spec vs c.book (run (length S.instructions) S.instructions r) fit S.places N.outputs l c.holding
     where
       vs : List ℕ
@@ -115,5 +114,5 @@ module _ (N : Netlist) (S : Sequence) (n : ℕ) (r : List ℕ) (c : Checked N S 
 
       fit : Fits vs c.book (run (length S.instructions) S.instructions r)
       fit =
-          steps_fit N vs (gates_true (take N.inputs r) N.gates N.inputs (length-take-le N.inputs r (omega arith)) (λ j k. (W.lines.gate j k).lower)) S.instructions
+          steps_fit N vs (gates_true (take N.inputs r) N.gates N.inputs (length-take-le N.inputs r (omega arith)) o) S.instructions
           (first_book N.inputs S.row) c.book r (rw (← len) (first_fits N.inputs N.gates r (omega arith))) c.stepped

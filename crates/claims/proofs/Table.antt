@@ -1,4 +1,4 @@
--- The table of values, grown gate by gate: earlier entries stay, and each new one is a NOR over the whole table.
+-- A table grown gate by gate: earlier entries stay. In the table of values each new one is a NOR over the whole table.
 use Rattle.std.proofs.Common.{ℕ, zero, suc, ◌+◌, ◌<◌, arith, add-zero, ◌≡◌, refl, sym, ap, ◌∙◌, Bool, true, false, List, [], ◌∷◌, ◌++◌, eqb, leb, get_or, length}
 use lib.ListN.{get_or-append}
 use lib.Seq.{get_or-append_seam}
@@ -8,11 +8,11 @@ use Rattle.rules.specs.Values.{nor, table}
 use Rattle.rules.proofs.Laws.{by_pick, cons_self, cons_more}
 use Rattle.rules.proofs.Lists.{Below}
 
-pub table_keeps : (vs : List ℕ) (gs : List (List ℕ)) (i : ℕ) → i < length vs → get_or (table nor vs gs) i 0 ≡ get_or vs i 0
+pub table_keeps : {G : Type 0} (f : List ℕ → G → ℕ) (vs : List ℕ) (gs : List G) (i : ℕ) → i < length vs → get_or (table f vs gs) i 0 ≡ get_or vs i 0
 unfolding table
-table_keeps vs [] i h = refl
-table_keeps vs (g ∷ gs) i h =
-    table_keeps (vs ++ (nor vs g ∷ [])) gs i (omega (arith, length_push vs (nor vs g))) ∙ get_or-append vs (nor vs g ∷ []) 0 i h
+table_keeps f vs [] i h = refl
+table_keeps f vs (g ∷ gs) i h =
+    table_keeps f (vs ++ (f vs g ∷ [])) gs i (omega (arith, length_push vs (f vs g))) ∙ get_or-append vs (f vs g ∷ []) 0 i h
 
 -- a NOR looks only at its operands
 nor_local : (m : ℕ) (g vs us : List ℕ) → Below m g → ((i : ℕ) → i < m → get_or vs i 0 ≡ get_or us i 0) → nor vs g ≡ nor us g
@@ -27,9 +27,9 @@ unfolding table
 values_spec vs [] low j h = absurd (omega arith)
 values_spec vs (g ∷ gs) low zero h =
     ap (λ (k : ℕ). get_or (table nor (vs ++ (nor vs g ∷ [])) gs) k 0) (add-zero (length vs))
-    ∙ table_keeps (vs ++ (nor vs g ∷ [])) gs (length vs) (omega (arith, length_push vs (nor vs g)))
+    ∙ table_keeps nor (vs ++ (nor vs g ∷ [])) gs (length vs) (omega (arith, length_push vs (nor vs g)))
     ∙ get_or-append_seam vs (nor vs g) [] 0
-    ∙ nor_local (length vs) g vs (table nor (vs ++ (nor vs g ∷ [])) gs) (rw add-zero at (low 0 h)) (λ i k. sym (table_keeps vs (g ∷ gs) i k))
+    ∙ nor_local (length vs) g vs (table nor (vs ++ (nor vs g ∷ [])) gs) (rw add-zero at (low 0 h)) (λ i k. sym (table_keeps nor vs (g ∷ gs) i k))
 values_spec vs (g ∷ gs) low (suc j) h =
     let same : (i : ℕ) → length vs + suc i ≡ length (vs ++ (nor vs g ∷ [])) + i = λ i. omega (arith, length_push vs (nor vs g)) in
     rw (same j) (values_spec (vs ++ (nor vs g ∷ [])) gs (λ i k. rw (same i) at (low (suc i) (omega arith))) j (omega arith))

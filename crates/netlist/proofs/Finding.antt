@@ -109,7 +109,7 @@ module _ (n : Netlist) (w : WellFlat n) (single : twins (gates_in n.ops n.counts
             rw z
         go false e r = r ∙ sym (first_none (gate_with os n.inputs (gates m)))
 
-    -- what `index::find` answers for the netlist's keys and chains is the gate that document 01 means
+    -- what `index::Chains::find` answers for the netlist's keys and chains is the gate that document 01 means
     pub finds : found_gate n.inputs (found_in (keys_in n) (chained (keys_in n) (min n.gates 512)) (key_of os))
         ≡ gate_with os n.inputs (gates n.gates)
     finds =
