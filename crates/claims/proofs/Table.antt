@@ -20,19 +20,26 @@ unfolding nor
 nor_local m [] vs us b e = refl
 nor_local m (o ∷ os) vs us b e = rw (e o (b o (cons_self o os)), nor_local m os vs us (λ x i. b x (cons_more x o os i)) e)
 
+-- Low m g: g reads only below m. `locally`: then f sees only the entries below m, and an entry follows f over the whole table
+module _ {G : Type 0} (f : List ℕ → G → ℕ) (Low : ℕ → G → Type 0)
+    (locally : (m : ℕ) (g : G) (vs us : List ℕ) → Low m g → ((i : ℕ) → i < m → get_or vs i 0 ≡ get_or us i 0) → f vs g ≡ f us g) where
+  pub table_spec : (d : G) (vs : List ℕ) (gs : List G) → ((j : ℕ) → j < length gs → Low (length vs + j) (get_or gs j d)) → (j : ℕ) → j < length gs
+      → get_or (table f vs gs) (length vs + j) 0 ≡ f (table f vs gs) (get_or gs j d)
+  unfolding table
+  table_spec d vs [] low j h = absurd (omega arith)
+  table_spec d vs (g ∷ gs) low zero h =
+      ap (λ (k : ℕ). get_or (table f (vs ++ (f vs g ∷ [])) gs) k 0) (add-zero (length vs))
+      ∙ table_keeps f (vs ++ (f vs g ∷ [])) gs (length vs) (omega (arith, length_push vs (f vs g)))
+      ∙ get_or-append_seam vs (f vs g) [] 0
+      ∙ locally (length vs) g vs (table f (vs ++ (f vs g ∷ [])) gs) (rw add-zero at (low 0 h)) (λ i k. sym (table_keeps f vs (g ∷ gs) i k))
+  table_spec d vs (g ∷ gs) low (suc j) h =
+      let same : (i : ℕ) → length vs + suc i ≡ length (vs ++ (f vs g ∷ [])) + i = λ i. omega (arith, length_push vs (f vs g)) in
+      rw (same j) (table_spec d (vs ++ (f vs g ∷ [])) gs (λ i k. rw (same i) at (low (suc i) (omega arith))) j (omega arith))
+
 -- a gate's entry is the NOR of its operands' entries
 pub values_spec : (vs : List ℕ) (gs : List (List ℕ)) → ((j : ℕ) → j < length gs → Below (length vs + j) (get_or gs j [])) → (j : ℕ) → j < length gs
     → get_or (table nor vs gs) (length vs + j) 0 ≡ nor (table nor vs gs) (get_or gs j [])
-unfolding table
-values_spec vs [] low j h = absurd (omega arith)
-values_spec vs (g ∷ gs) low zero h =
-    ap (λ (k : ℕ). get_or (table nor (vs ++ (nor vs g ∷ [])) gs) k 0) (add-zero (length vs))
-    ∙ table_keeps nor (vs ++ (nor vs g ∷ [])) gs (length vs) (omega (arith, length_push vs (nor vs g)))
-    ∙ get_or-append_seam vs (nor vs g) [] 0
-    ∙ nor_local (length vs) g vs (table nor (vs ++ (nor vs g ∷ [])) gs) (rw add-zero at (low 0 h)) (λ i k. sym (table_keeps nor vs (g ∷ gs) i k))
-values_spec vs (g ∷ gs) low (suc j) h =
-    let same : (i : ℕ) → length vs + suc i ≡ length (vs ++ (nor vs g ∷ [])) + i = λ i. omega (arith, length_push vs (nor vs g)) in
-    rw (same j) (values_spec (vs ++ (nor vs g ∷ [])) gs (λ i k. rw (same i) at (low (suc i) (omega arith))) j (omega arith))
+values_spec vs gs low j h = table_spec nor Below nor_local [] vs gs low j h
 
 -- ---- the order of a NOR's operands
 
