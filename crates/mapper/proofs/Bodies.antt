@@ -1,11 +1,11 @@
 -- The lines behind the head: from the plan and the run to the rule's mapping.
 -- Assumes nothing.
-use Prim.Native.Nat.{ℕ, ◌≤◌}
+use Prim.Native.Nat.{ℕ, ◌*◌, ◌≤◌}
 use native.Mathlib.Omega.{arith}
 use mathlib.Core.Path.{◌≡◌, refl, sym, ap, ◌∙◌}
 use mathlib.Core.List.{List, [], ◌∷◌, ◌++◌, map}
 use borrow.Author.Tests.{lt-ltb, le-ltb}
-use lib.ListN.{length, take}
+use lib.ListN.{length, length-append, length-map, take}
 use lib.Seq.{length-take-le}
 use Rattle.rules.specs.Basics.{pick}
 use Rattle.rules.specs.Form.{form01}
@@ -25,9 +25,15 @@ use Rattle.mapper.specs.declared.cells.Cells.{Cells}
 use Rattle.mapper.specs.declared.signals.Signals.{Signals}
 use Rattle.mapper.specs.Held.{first_cells}
 use Rattle.mapper.specs.Text.{entry}
+use Rattle.mapper.proofs.Writing.{place_length}
 use Rattle.mapper.specs.Wanted.{Wanted}
 use Rattle.mapper.specs.Run.{opened, ran, Seated, Mapped, Runnable}
 use Rattle.mapper.specs.Whole.{Due, body_text, Bodied}
+
+places_long : (cs : List ℕ) → length (texts (place_text form01) cs) ≡ 5 * length cs
+unfolding texts
+places_long [] = refl
+places_long (c ∷ cs) = length-append (place_text form01 c) (texts (place_text form01) cs) ∙ omega (arith, place_length c, places_long cs)
 
 pub body_no_row : (n : Netlist) (row : ℕ) → row ≤ n.inputs → mapped (netlist_in n) row ≡ refused 9
 unfolding mapped netlist_in ◌>>◌ require
@@ -73,7 +79,7 @@ module _ (n : Netlist) (row : ℕ) {plan : Plan} (d : Due n row plan) where
     pub body_some : {st : Cells} {g : Signals} {text text' : List ℕ} → Mapped n st₀.row (take plan.count plan.seq) st g text
         → text' ≡ text ++ texts (place_text form01) (map (entry g.table) (from n.outs 0 n.outputs)) → Bodied n row text' st.lines
     unfolding ◌>>=◌ body_text sequence_from netlist_in
-    body_some {st} {g} x e =
+    body_some {st} {g} {text} x e =
         record {
           sequence = sequence_from (netlist_in n) row x.end;
           is = mapped_is x.is;
@@ -82,6 +88,16 @@ module _ (n : Netlist) (row : ℕ) {plan : Plan} (d : Due n row plan) where
           outputs = length_from n.outs 0 n.outputs;
           text_is = e ∙ rw (x.text_is, same (from n.outs 0 n.outputs));
           count = x.count;
+          short = rw e
+              (omega (
+                arith,
+                x.short,
+                length-append text (texts (place_text form01) (map (entry g.table) (from n.outs 0 n.outputs))),
+                places_long (map (entry g.table) (from n.outs 0 n.outputs)),
+                length-map (from n.outs 0 n.outputs) (entry g.table),
+                length_from n.outs 0 n.outputs,
+                d.well.outputs_most,
+              ));
           few = x.few;
         }
       where

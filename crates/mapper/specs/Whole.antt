@@ -29,7 +29,7 @@ unfoldable pub body_text : Sequence → List ℕ
 unfolding texts instruction_text place_text form01
 body_text S = texts (instruction_text form01) S.instructions ++ texts (place_text form01) S.places
 
--- they are written, and the number of instructions is known
+-- they are written, and their length and the number of instructions are known
 pub record Bodied (n : Netlist) (row : ℕ) (text : List ℕ) (lines : ℕ) : Type 0 where
   pub sequence : Sequence
   pub is : mapped (netlist_in n) row ≡ good sequence
@@ -38,6 +38,7 @@ pub record Bodied (n : Netlist) (row : ℕ) (text : List ℕ) (lines : ℕ) : Ty
   pub outputs : sequence.outputs ≡ n.outputs
   pub text_is : text ≡ body_text sequence
   pub count : lines ≡ length sequence.instructions
+  pub short : length text ≤ 15900
   pub few : lines ≤ 2000
 
 unfoldable pub BodyOf : Netlist → ℕ → List ℕ → Result ℕ Refusal → Type 0

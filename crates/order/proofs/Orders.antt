@@ -152,11 +152,11 @@ plan_some n e o l w c = record {
 }
 
 -- the outputs are signals
-pub outputs_placed : (n : Netlist) → Fits n → {left : List ℕ} → length left ≡ 576 → Placed (from n.outs 0 n.outputs) left
-outputs_placed n w l = record {
+pub outputs_placed : (n : Netlist) → Fits n → (k : ℕ) → k ≤ n.outputs → {left : List ℕ} → length left ≡ 576 → Placed (from n.outs 0 k) left
+outputs_placed n w k h l = record {
   inside = λ o m.
-      let r = from_mem n.outs 0 n.outputs o m in
+      let r = from_mem n.outs 0 k o m in
       let z : 0 + r.0 ≡ r.0 = omega arith in
-      let low : o < n.inputs + n.gates = rw (← r.2, z) (w.outputs_low r.0 r.1) in
+      let low : o < n.inputs + n.gates = rw (← r.2, z) (w.outputs_low r.0 (omega (arith, r.1))) in
       omega (arith, low, l, w.inputs_most, w.gates_most);
 }

@@ -122,10 +122,11 @@ reading_start {left = left} e =
 pub reading_light : (n : Netlist) → Fits n → {left : List ℕ} {g : ℕ} → Reading n.ops n.counts left n.gates g → Light left 4000
 reading_light n w r = record { all = λ i. omega (arith, r.light.all i, r.inside, w.gates_most) }
 
-module _ (n : Netlist) (w : Fits n) {left : List ℕ} {g : ℕ} (r : Reading n.ops n.counts left n.gates g) (h : g < n.gates) where
-  pub operands_placed : Placed (gate_in n.ops n.counts g) left
-  operands_placed = record { inside = λ o m. omega (arith, r.wide, operand_low n w g o h m, w.inputs_most, w.gates_most) }
+-- a gate's operands are signals
+pub operands_placed : (n : Netlist) → Fits n → (g : ℕ) → g < n.gates → (left : List ℕ) → n.inputs + n.gates ≤ length left → Placed (gate_in n.ops n.counts g) left
+operands_placed n w g h left l = record { inside = λ o m. omega (arith, operand_low n w g o h m, l) }
 
+module _ (n : Netlist) (w : Fits n) {left : List ℕ} {g : ℕ} (r : Reading n.ops n.counts left n.gates g) (h : g < n.gates) where
   pub reading_turn : {left' : List ℕ} → CountedUp (gate_in n.ops n.counts g) left left' → Reading n.ops n.counts left' n.gates (g + 1)
   unfolding gates_in
   reading_turn c = record {

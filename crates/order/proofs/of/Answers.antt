@@ -16,7 +16,7 @@ pub count_up-requires : goal.count_up-requires
 count_up-requires c = let n = c.args.n.now in
     let w = c.fits.ensures.facts c.if-not-fits.false in
     let l : length c.count_readers-left.result ≡ 576 = search rules in
-    rw (c.output_list-outputs.ensures.held w.outputs_most) (record { few = omega (arith, length_from n.outs 0 n.outputs, w.outputs_most); light = c.count_readers-left.ensures.light; placed = outputs_placed n w l })
+    rw (c.output_list-outputs.ensures.held w.outputs_most) (record { few = omega (arith, length_from n.outs 0 n.outputs, w.outputs_most); light = c.count_readers-left.ensures.light; placed = outputs_placed n w n.outputs (omega arith) l })
 
 pub returns : goal.returns
 returns c = let n = c.args.n.now in

@@ -13,7 +13,7 @@ count_up-requires c = let n = c.args.n.now in
     rw (c.operands.ensures.held (gate_held c.args.n.now c.requires c.loop-g-test.true)) (record {
       few = omega (arith, few_operands n c.requires _ h);
       light = reading_light n c.requires c.loop-g.invariant;
-      placed = operands_placed n c.requires c.loop-g.invariant h;
+      placed = operands_placed n c.requires _ h _ (omega (arith, c.loop-g.invariant.wide, c.requires.inputs_most, c.requires.gates_most));
     })
 
 pub loop-g-preserved : goal.loop-g-preserved
